@@ -1,0 +1,6 @@
+#!/usr/bin/env bash
+# Proves every crate, tries every must-fail edit, and runs every test and program.
+set -u
+cd "$(dirname "${BASH_SOURCE[0]}")" || exit 1
+command -v rt >/dev/null || { echo "check.sh: the Rattle kit's command 'rt' is not on the PATH" >&2; exit 2; }
+exec rt ci

@@ -1,0 +1,15 @@
+pub mod Field
+pub mod FileKind
+pub mod Limits
+pub mod Lists
+pub mod Order
+pub mod Steps
+pub mod Cutting
+pub mod History
+pub mod KeyFormat
+pub mod Spans
+pub mod Items
+pub mod Refusal
+pub mod Fragments
+pub mod Canonical
+pub mod Seen
