@@ -1,10 +1,9 @@
 -- Known bytes that are consumed and appended in turn.
-use Rattle.std.proofs.Common.{◌≡◌, ℕ, ◌+◌, ◌-◌, ◌<◌, ◌≤◌, List, [], ◌++◌, length, take, drop, sym, ap, subst, ◌∙◌, arith, Option, None, Some, length-append, length-drop, length-take-le, min}
+use Rattle.std.proofs.Common.{◌≡◌, ℕ, ◌+◌, ◌-◌, ◌<◌, ◌≤◌, List, [], ◌++◌, length, take, drop, sym, ap, subst, ◌∙◌, arith, Option, None, Some, length-drop, length-take-le, min}
 use Rattle.std.specs.Io.KnownBytes.{Appends, Consumes}
 use Rattle.std.proofs.lemmas.Grind.{common_steps}
 use Rattle.std.proofs.lemmas.List.{drop-drop, take_at, take-append-drop, nil_from_length}
-use Rattle.std.proofs.Math.Seq.{take-add, take-append-add, take-append_seam}
-
+use Rattle.std.proofs.Math.Seq.{take-add}
 
 pub appends-trans : (a b c : Option (List ℕ)) (xs ys : List ℕ) → Appends a b xs → Appends b c ys → Appends a c (xs ++ ys)
 appends-trans None b c xs ys h k = tt
@@ -46,4 +45,3 @@ read_memory bytes into part at n is within =
 pub empty_memory : (bytes : List ℕ) (at n piece room : ℕ) → n ≡ 0 → 1 ≤ piece → 0 < room → n ≡ min (min (length (drop at bytes)) piece) room → drop (at + n) bytes ≡ []
 empty_memory bytes at n piece room none some roomy is =
     nil_from_length _ (omega (arith, length-drop (at + n) bytes, length-drop at bytes))
-

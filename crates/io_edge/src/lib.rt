@@ -4,7 +4,9 @@
 mod memory;
 mod real;
 mod traits;
+mod whole;
 
 pub use memory::{MemSink, MemSource};
 pub use real::{ReaderSource, WriterSink};
 pub use traits::{Failed, Sink, Source};
+pub use whole::write_all;

@@ -94,7 +94,7 @@ impl MemSink {
         failing: Vec<u64>,
     ) -> Result<MemSink, OutOfMemory>
         requires { 1 ≤ piece }
-        ensures written { IfOk result (λ s. sink_bytes s ≡ []) }
+        ensures held { IfOk result (λ s. sink_bytes s ≡ []) }
         ensures faults { IfOk result (λ s. sink_faults s ≡ 0) }
     {
         Ok(MemSink {
@@ -117,7 +117,7 @@ impl MemSink {
 impl Sink for MemSink {
     ghost use Rattle.io_edge.specs.Memory.{taking, fails_at};
 
-    ghost written = { λ s. Some s.taken.items };
+    ghost held = { λ s. Some s.taken.items };
 
     ghost faults = { λ s. s.faults };
 

@@ -22,8 +22,8 @@ pub trait Source {
 }
 
 pub trait Sink {
-    /// The bytes that were written, where told.
-    ghost written: { Self → Option (List ℕ) };
+    /// The bytes written to it, where told.
+    ghost held: { Self → Option (List ℕ) };
 
     /// How often a write failed.
     ghost faults: { Self → ℕ };
@@ -31,7 +31,7 @@ pub trait Sink {
     fn write(&mut self, piece: &[u8]) -> Result<usize, Failed>
         ensures bound { WritesAtMost result piece.now }
         ensures some { IfOk result (λ n. 0 < length piece.now → 0 < n) }
-        ensures bytes { WriteAppends (written self.old) (written self.new) result piece.now }
-        ensures told { is_some (written self.new) ≡ is_some (written self.old) }
+        ensures bytes { WriteAppends (held self.old) (held self.new) result piece.now }
+        ensures told { is_some (held self.new) ≡ is_some (held self.old) }
         ensures cause { HasCause (faults self.old) (faults self.new) result };
 }
