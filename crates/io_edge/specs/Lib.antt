@@ -1,4 +1,5 @@
 pub mod Causes
 pub mod Memory
-pub mod Exact
+pub mod Real
+pub mod Told
 pub mod Writing

@@ -1,32 +1,73 @@
-use Rattle.std.specs.Prelude.{ℕ, List, drop, length, min, ◌-◌, vec_len, Bool, ◌||◌, ◌&&◌, ◌==◌, not}
+-- Sources and sinks over memory: what contracts see of them, and what each call does.
+use Rattle.std.specs.Prelude.{ℕ, ◌≡◌, ◌+◌, ◌-◌, ◌^◌, List, ◌++◌, length, take, drop, min, Bool, true, false, not, ◌==◌, ◌&&◌, ◌||◌, if◌then◌else◌, Result, MatchResult}
 use Rattle.std.specs.List.{list_any}
-use Rattle.io_edge.specs.declared.memory.MemSource.{MemSource}
-use Rattle.io_edge.specs.declared.memory.MemSink.{MemSink}
 
-abbrev pub source_left : MemSource → List ℕ
-source_left s = drop s.at s.bytes.items
+-- a source that never fails: the bytes left, and the most that one read gives
+pub record SureState : Type 0 where
+  pub left : List ℕ
+  pub piece : ℕ
 
-abbrev pub source_faults : MemSource → ℕ
-source_faults s = s.faults
+-- a source whose faults are listed: also the numbers of the calls that fail, the number of the next call, and the faults so far
+pub record SourceState : Type 0 where
+  pub left : List ℕ
+  pub piece : ℕ
+  pub failing : List ℕ
+  pub calls : ℕ
+  pub faults : ℕ
 
-abbrev pub sink_bytes : MemSink → List ℕ
-sink_bytes s = s.taken.items
+-- a sink whose faults are listed: the bytes held, how many it holds at most, and the rest as for a source
+pub record SinkState : Type 0 where
+  pub held : List ℕ
+  pub room : ℕ
+  pub piece : ℕ
+  pub failing : List ℕ
+  pub calls : ℕ
+  pub faults : ℕ
 
-abbrev pub sink_faults : MemSink → ℕ
-sink_faults s = s.faults
+-- the number of the next call after a call over so many bytes: an empty one is not counted, and the count stops above all numbers of 64 bits
+abbrev pub number_after : ℕ → ℕ → ℕ
+number_after calls len = if len == 0 then calls else min (calls + 1) (2 ^ 128 - 1)
 
--- how much a write takes
-abbrev pub taking : MemSink → List ℕ → ℕ
-taking s piece = min (min (length piece) s.piece) (s.room - vec_len s.taken)
+-- the count of faults after one more, which stops at its last value
+abbrev pub one_more_fault : ℕ → ℕ
+one_more_fault faults = min (faults + 1) (2 ^ 64 - 1)
 
--- whether a write fails: its number is listed, or it would take nothing of a piece that is not empty
-abbrev pub fails_at : MemSink → List ℕ → Bool
-fails_at s piece = not (length piece == 0) && ((taking s piece == 0) || list_any (λ n. n == s.calls) s.failing.items)
+-- whether a call is to fail by its number
+abbrev pub is_listed : List ℕ → ℕ → Bool
+is_listed failing call = list_any (λ n. n == call) failing
 
--- how much a read gives
-abbrev pub giving : MemSource → List ℕ → ℕ
-giving s into = min (min (length (source_left s)) s.piece) (length into)
+-- how many bytes a read into a buffer of this length gives
+abbrev pub giving : List ℕ → ℕ → ℕ → ℕ
+giving left piece len = min (min piece len) (length left)
 
--- whether a read fails: its number is listed
-abbrev pub read_fails_at : MemSource → List ℕ → Bool
-read_fails_at s into = not (length into == 0) && list_any (λ n. n == s.calls) s.failing.items
+-- whether a read into a buffer of this length fails
+abbrev pub read_fails : SourceState → ℕ → Bool
+read_fails s len = not (len == 0) && is_listed s.failing s.calls
+
+-- the source after a read of n bytes into a buffer of this length
+abbrev pub after_read : SourceState → ℕ → ℕ → SourceState
+after_read s len n = record s { left = drop n s.left; calls = number_after s.calls len }
+
+-- the source after a read into a buffer of this length that failed
+abbrev pub after_failed_read : SourceState → ℕ → SourceState
+after_failed_read s len = record s { calls = number_after s.calls len; faults = one_more_fault s.faults }
+
+-- how many bytes of a piece of this length a write takes
+abbrev pub taking : SinkState → ℕ → ℕ
+taking s len = min (min s.piece len) (s.room - length s.held)
+
+-- whether a write of a piece of this length fails
+abbrev pub write_fails : SinkState → ℕ → Bool
+write_fails s len = not (len == 0) && (is_listed s.failing s.calls || (taking s len == 0))
+
+-- the sink after a write of the first n bytes of the piece
+abbrev pub after_write : SinkState → List ℕ → ℕ → SinkState
+after_write s piece n = record s { held = s.held ++ take n piece; calls = number_after s.calls (length piece) }
+
+-- the sink after a write of the piece that failed
+abbrev pub after_failed_write : SinkState → List ℕ → SinkState
+after_failed_write s piece = record s { calls = number_after s.calls (length piece); faults = one_more_fault s.faults }
+
+-- a call fails exactly where told, and otherwise moves so many bytes
+abbrev pub TakesExactly : {E : Type 0} → ℕ → Bool → Result ℕ E → Type 0
+TakesExactly count fails r = MatchResult r (λ n. (fails ≡ false) × (n ≡ count)) (λ _. fails ≡ true)

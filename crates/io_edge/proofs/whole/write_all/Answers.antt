@@ -1,5 +1,5 @@
 use Rattle.std.proofs.Common.{arith, drop, ◌≡◌, ◌∙◌}
-use Rattle.io_edge.proofs.Steps.{appends-more, rest-more}
+use Rattle.io_edge.proofs.Known.{appends-more, rest-more}
 use Rattle.io_edge.proofs.whole.write_all.Goals as goal
 
 pub loop-rest-preserved : goal.loop-rest-preserved
