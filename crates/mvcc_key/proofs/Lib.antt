@@ -1,3 +1,4 @@
+pub mod LookLaws
 pub mod ByteLaws
 pub mod CuttingLaws
 pub mod Examples

@@ -12,4 +12,6 @@ pub mod Items
 pub mod Refusal
 pub mod Fragments
 pub mod Canonical
+pub mod Pieces
+pub mod Looks
 pub mod Seen

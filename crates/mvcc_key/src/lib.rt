@@ -1,10 +1,20 @@
 //! Keys, timestamps and the words that every layer of the store shares.
 #![tactic(auto)]
 
+mod batch;
 mod key;
+mod laws;
+mod list;
 mod memory;
+mod span;
+mod steps;
 mod timestamp;
 
+pub use batch::{Batch, PointOp, RangeOp};
 pub use key::Key;
+pub use laws::{laws_of_changes, laws_of_cuts, laws_of_fragments, laws_of_middles};
+pub use list::{Bytes, Items};
 pub use memory::OutOfMemory;
+pub use span::{SeqRange, Span};
+pub use steps::Steps;
 pub use timestamp::Timestamp;
