@@ -37,7 +37,7 @@ impl Model for MemSink {
 
 impl MemSink {
     /// An empty sink with room for `room` bytes, which takes at most `piece` of them a write, and whose calls with the
-    /// numbers in `failing` fail. All its memory is taken here.
+    /// numbers in `failing` fail. All its memory is taken here. With `piece` 0 each write of a piece that is not empty fails.
     pub fn new(
         alloc: Global,
         room: usize,

@@ -3,8 +3,8 @@ ghost use Rattle.std.specs.Prelude.{◌≡◌, ◌≤◌, ◌<◌, ◌++◌, len
 ghost use Rattle.std.specs.Io.{ReadsAtMost, WritesAtMost};
 ghost use Rattle.std.specs.Io.KnownBytes.{ReadConsumes, WriteAppends};
 ghost use Rattle.io_edge.specs.Causes.{HasCause};
-ghost use Rattle.io_edge.specs.Told.{untold};
 ghost use Rattle.io_edge.specs.Memory.{giving};
+ghost use Rattle.io_edge.specs.Told.{untold};
 
 use crate::traits::{Failed, Sink, Source};
 use std::marker::Model;
