@@ -24,7 +24,7 @@ pub record SinkState : Type 0 where
   pub calls : ℕ
   pub faults : ℕ
 
--- the number of the next call after a call over so many bytes: an empty one is not counted, and the count stops above all numbers of 64 bits
+-- the number of the call after one over so many bytes: an empty one is not counted; the count stops above every listed number
 abbrev pub number_after : ℕ → ℕ → ℕ
 number_after calls len = if len == 0 then calls else min (calls + 1) (2 ^ 128 - 1)
 
