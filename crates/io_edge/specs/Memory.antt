@@ -1,6 +1,7 @@
 -- Sources and sinks over memory: what contracts see of them, and what each call does.
 use Rattle.std.specs.Prelude.{ℕ, ◌≡◌, ◌+◌, ◌-◌, ◌^◌, List, ◌++◌, length, take, drop, min, Bool, true, false, not, ◌==◌, ◌&&◌, ◌||◌, if◌then◌else◌, Result, MatchResult}
 use Rattle.std.specs.List.{list_any}
+use Rattle.io_edge.specs.Causes.{one_more_fault}
 
 -- a source that never fails: the bytes left, and the most that one read gives
 pub record SureState : Type 0 where
@@ -27,10 +28,6 @@ pub record SinkState : Type 0 where
 -- the number of the call after one over so many bytes: an empty one is not counted; the count stops above every listed number
 abbrev pub number_after : ℕ → ℕ → ℕ
 number_after calls len = if len == 0 then calls else min (calls + 1) (2 ^ 128 - 1)
-
--- the count of faults after one more; it stops at its last value
-abbrev pub one_more_fault : ℕ → ℕ
-one_more_fault faults = min (faults + 1) (2 ^ 64 - 1)
 
 -- whether a call is to fail by its number
 abbrev pub is_listed : List ℕ → ℕ → Bool
