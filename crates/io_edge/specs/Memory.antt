@@ -1,13 +1,14 @@
 -- Sources and sinks over memory: what contracts see of them, and what each call does.
 use Rattle.std.specs.Prelude.{ℕ, ◌≡◌, ◌+◌, ◌-◌, ◌^◌, List, ◌++◌, length, take, drop, min, Bool, true, false, not, ◌==◌, ◌&&◌, ◌||◌, if◌then◌else◌, Result, MatchResult}
 use Rattle.std.specs.List.{list_any}
+use Rattle.io_edge.specs.Causes.{one_more_fault}
 
 -- a source that never fails: the bytes left, and the most that one read gives
 pub record SureState : Type 0 where
   pub left : List ℕ
   pub piece : ℕ
 
--- a source whose faults are listed: also the numbers of the calls that fail, the number of the next call, and the faults so far
+-- a source with listed faults: also the numbers of the calls that fail, the number of the next call, and the faults so far
 pub record SourceState : Type 0 where
   pub left : List ℕ
   pub piece : ℕ
@@ -15,7 +16,7 @@ pub record SourceState : Type 0 where
   pub calls : ℕ
   pub faults : ℕ
 
--- a sink whose faults are listed: the bytes held, how many it holds at most, and the rest as for a source
+-- a sink with listed faults: the bytes held, how many it holds at most, and the rest as for a source
 pub record SinkState : Type 0 where
   pub held : List ℕ
   pub room : ℕ
@@ -24,13 +25,9 @@ pub record SinkState : Type 0 where
   pub calls : ℕ
   pub faults : ℕ
 
--- the number of the next call after a call over so many bytes: an empty one is not counted, and the count stops above all numbers of 64 bits
+-- the number of the call after one over so many bytes: an empty one is not counted; the count stops above every listed number
 abbrev pub number_after : ℕ → ℕ → ℕ
 number_after calls len = if len == 0 then calls else min (calls + 1) (2 ^ 128 - 1)
-
--- the count of faults after one more, which stops at its last value
-abbrev pub one_more_fault : ℕ → ℕ
-one_more_fault faults = min (faults + 1) (2 ^ 64 - 1)
 
 -- whether a call is to fail by its number
 abbrev pub is_listed : List ℕ → ℕ → Bool
@@ -68,6 +65,6 @@ after_write s piece n = record s { held = s.held ++ take n piece; calls = number
 abbrev pub after_failed_write : SinkState → List ℕ → SinkState
 after_failed_write s piece = record s { calls = number_after s.calls (length piece); faults = one_more_fault s.faults }
 
--- a call fails exactly where told, and otherwise moves so many bytes
+-- a call fails exactly where the test says so, and otherwise moves so many bytes
 abbrev pub TakesExactly : {E : Type 0} → ℕ → Bool → Result ℕ E → Type 0
 TakesExactly count fails r = MatchResult r (λ n. (fails ≡ false) × (n ≡ count)) (λ _. fails ≡ true)

@@ -12,4 +12,5 @@ pub record AppendsBeginning (held held' : Option (List ℕ)) (piece : List ℕ) 
 
 -- at Ok(n) they grew by its first n bytes, and at Err by a beginning of it
 abbrev pub TakesBeginning : {E : Type 0} → Option (List ℕ) → Option (List ℕ) → Result ℕ E → List ℕ → Type 0
-TakesBeginning held held' r piece = MatchResult r (λ n. Appends held held' (take n piece)) (λ _. AppendsBeginning held held' piece)
+TakesBeginning held held' r piece = MatchResult r (λ n. Appends held held' (take n piece))
+    (λ _. AppendsBeginning held held' piece)

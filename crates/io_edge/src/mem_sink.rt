@@ -30,21 +30,35 @@ impl Model for MemSink {
 
     ghost Value = { SinkState };
 
-    ghost view = { λ s. record { held = s.taken.items; room = s.room; piece = s.piece; failing = s.plan.failing.items; calls = s.plan.calls; faults = s.plan.faults } };
+    ghost view = { λ s. record {
+      held = s.taken.items;
+      room = s.room;
+      piece = s.piece;
+      failing = s.plan.failing.items;
+      calls = s.plan.calls;
+      faults = s.plan.faults;
+    } };
 
     ghost invariant = { λ s. (s.room ≤ vec_capacity s.taken) × (vec_len s.taken ≤ s.room) };
 }
 
 impl MemSink {
     /// An empty sink with room for `room` bytes, which takes at most `piece` of them a write, and whose calls with the
-    /// numbers in `failing` fail. All its memory is taken here.
+    /// numbers in `failing` fail. All its memory is taken here. With `piece` 0 each write of a piece that is not empty fails.
     pub fn new(
         alloc: Global,
         room: usize,
         piece: usize,
         failing: Vec<u64>,
     ) -> Result<MemSink, OutOfMemory>
-        ensures { IfOk result (λ s. s ≡ record { held = []; room = room; piece = piece; failing = failing.items; calls = 0; faults = 0 }) }
+        ensures { IfOk result (λ s. s ≡ record {
+          held = [];
+          room = room;
+          piece = piece;
+          failing = failing.items;
+          calls = 0;
+          faults = 0;
+        }) }
     {
         Ok(MemSink {
             taken: Vec::with_capacity(alloc, room)?,
@@ -75,7 +89,8 @@ impl Sink for MemSink {
         ensures cause { HasCause self.old.faults self.new.faults result }
 
         // which call fails, what the others take, and what stands then in the sink
-        ensures exact { TakesExactly (taking self.old (length piece.now)) (write_fails self.old (length piece.now)) result }
+        ensures exact { TakesExactly (taking self.old (length piece.now))
+            (write_fails self.old (length piece.now)) result }
         ensures ok { IfOk result (λ n. self.new ≡ after_write self.old piece.now n) }
         ensures err { OnErr result (self.new ≡ after_failed_write self.old piece.now) }
     {

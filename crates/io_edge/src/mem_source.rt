@@ -25,14 +25,26 @@ impl Model for MemSource {
 
     ghost Value = { SourceState };
 
-    ghost view = { λ s. record { left = s.inner.left; piece = s.inner.piece; failing = s.plan.failing.items; calls = s.plan.calls; faults = s.plan.faults } };
+    ghost view = { λ s. record {
+      left = s.inner.left;
+      piece = s.inner.piece;
+      failing = s.plan.failing.items;
+      calls = s.plan.calls;
+      faults = s.plan.faults;
+    } };
 }
 
 impl MemSource {
     /// A source that gives these bytes, at most `piece` of them a read, and whose calls with the numbers in `failing` fail.
     pub fn new(bytes: Vec<u8>, piece: usize, failing: Vec<u64>) -> MemSource
         requires { 1 ≤ piece }
-        ensures { result ≡ record { left = bytes.items; piece = piece; failing = failing.items; calls = 0; faults = 0 } }
+        ensures { result ≡ record {
+          left = bytes.items;
+          piece = piece;
+          failing = failing.items;
+          calls = 0;
+          faults = 0;
+        } }
     {
         MemSource {
             inner: SureSource::new(bytes, piece),
@@ -52,9 +64,12 @@ impl Source for MemSource {
         ensures told { is_some (Some self.new.left) ≡ is_some (Some self.old.left) }
         ensures cause { HasCause self.old.faults self.new.faults result }
 
-        // which call fails, what the others give, and what stands then in the buffer and in the source
-        ensures exact { TakesExactly (giving self.old.left self.old.piece (length into.old)) (read_fails self.old (length into.old)) result }
-        ensures into { MatchResult result (λ n. into.new ≡ take n self.old.left ++ drop n into.old) (λ _. into.new ≡ into.old) }
+        // which call fails, what the others give, and then the buffer and the source
+        ensures exact { TakesExactly (giving self.old.left self.old.piece (length into.old))
+            (read_fails self.old (length into.old)) result }
+        ensures into { MatchResult result
+            (λ n. into.new ≡ take n self.old.left ++ drop n into.old)
+            (λ _. into.new ≡ into.old) }
         ensures ok { IfOk result (λ n. self.new ≡ after_read self.old (length into.old) n) }
         ensures err { OnErr result (self.new ≡ after_failed_read self.old (length into.old)) }
     {

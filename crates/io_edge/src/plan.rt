@@ -1,6 +1,7 @@
 //! Which calls of a source or a sink over memory fail.
 ghost use Rattle.std.specs.Prelude.{◌≡◌, ◌≤◌, ◌+◌, ◌-◌, ◌^◌, min};
-ghost use Rattle.io_edge.specs.Memory.{is_listed, one_more_fault};
+ghost use Rattle.io_edge.specs.Causes.{one_more_fault};
+ghost use Rattle.io_edge.specs.Memory.{is_listed};
 
 /// The numbers of the calls that are to fail, counted from 0, and how many calls and how many faults there were.
 #[derive(Debug, Drop)]
@@ -25,7 +26,9 @@ impl FaultPlan {
     /// Counts a call, and tells whether its number is listed.
     pub(crate) fn begin_call(&mut self) -> bool
         ensures listed { result ≡ is_listed self.old.failing.items self.old.calls }
-        ensures counted { self.new ≡ record self.old { calls = min (self.old.calls + 1) (2 ^ 128 - 1) } }
+        ensures counted { self.new ≡ record self.old {
+          calls = min (self.old.calls + 1) (2 ^ 128 - 1);
+        } }
     {
         let call = self.calls;
         self.calls = call.saturating_add(1);

@@ -3,8 +3,8 @@ ghost use Rattle.std.specs.Prelude.{◌≡◌, ◌≤◌, ◌<◌, ◌++◌, len
 ghost use Rattle.std.specs.Io.{ReadsAtMost, WritesAtMost};
 ghost use Rattle.std.specs.Io.KnownBytes.{ReadConsumes, WriteAppends};
 ghost use Rattle.io_edge.specs.Causes.{HasCause};
-ghost use Rattle.io_edge.specs.Told.{untold};
 ghost use Rattle.io_edge.specs.Memory.{giving};
+ghost use Rattle.io_edge.specs.Told.{untold};
 
 use crate::traits::{Failed, Sink, Source};
 use std::marker::Model;
@@ -53,10 +53,12 @@ impl Source for SureSource {
         ensures told { is_some (Some self.new.left) ≡ is_some (Some self.old.left) }
         ensures cause { HasCause 0 0 result }
 
-        // what it gives, and what stands then in the buffer and in the source
+        // what it gives, and then the buffer and the source
         ensures exact { result ≡ Ok (giving self.old.left self.old.piece (length into.old)) }
         ensures into { IfOk result (λ n. into.new ≡ take n self.old.left ++ drop n into.old) }
-        ensures after { IfOk result (λ n. self.new ≡ record self.old { left = drop n self.old.left }) }
+        ensures after { IfOk result (λ n. self.new ≡ record self.old {
+          left = drop n self.old.left;
+        }) }
     {
         let rest = self.bytes.as_slice().split_at(self.at).1;
         let count = self.piece.min(into.len()).min(rest.len());
