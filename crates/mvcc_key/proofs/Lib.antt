@@ -20,3 +20,5 @@ pub mod ChangeLaws
 pub mod TombstonesOfLaws
 pub mod MiddleLaws
 pub mod ApartLaws
+pub mod NamedLaws
+pub mod ClockLaws

@@ -14,4 +14,7 @@ pub mod Fragments
 pub mod Canonical
 pub mod Pieces
 pub mod Looks
+pub mod Encoded
+pub mod Clock
 pub mod Seen
+pub mod SeenKey

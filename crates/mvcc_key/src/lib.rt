@@ -2,19 +2,28 @@
 #![tactic(auto)]
 
 mod batch;
+mod encoded;
 mod key;
 mod laws;
 mod list;
 mod memory;
+mod numbers;
 mod span;
 mod steps;
 mod timestamp;
 
 pub use batch::{Batch, PointOp, RangeOp};
+pub use encoded::{KeyFault, KeyRef, cmp_encoded, decode_key, encode_key};
 pub use key::Key;
-pub use laws::{laws_of_changes, laws_of_cuts, laws_of_fragments, laws_of_middles};
+pub use laws::{
+    laws_of_changes, laws_of_cuts, laws_of_fragments, laws_of_middles, laws_of_names,
+    laws_of_timestamps,
+};
 pub use list::{Bytes, Items};
 pub use memory::OutOfMemory;
 pub use span::{SeqRange, Span};
 pub use steps::Steps;
 pub use timestamp::Timestamp;
+
+#[cfg(test)]
+mod tests;
