@@ -20,6 +20,7 @@ value_of-headed ts bytes e =
     let long : 5 ≤ length bytes = leb-true _ _ parts.0 in
     rw (ne_eqb (length bytes) 0 (λ z. omega arith), le-ltb (length bytes) 5 long, parts.1) refl
 
+-- fewer than five bytes are no plain value
 short : (bytes : List ℕ) → ltb (length bytes) 5 ≡ true → plain_body bytes ≡ Err Short
 unfolding plain_body
 short bytes e = rw e refl

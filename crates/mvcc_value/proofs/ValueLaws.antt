@@ -66,9 +66,11 @@ number_of-varint n lt = number_of-groups 10 n (omega arith)
 
 -- ---- plain values
 
+-- bytes are the same as themselves
 same : (xs : List ℕ) → bytes_eq xs xs ≡ true
 same xs = (bytes_eq-Decides xs xs).1 refl
 
+-- the data of a number is read again
 int_again : (number : ℤ) → zigzag number < 2 ^ 64 → int_body (varint (zigzag number)) ≡ Ok (Int number)
 int_again number lt =
     let read : number_of (varint (zigzag number)) ≡ zigzag number = number_of-varint (zigzag number) lt in
@@ -105,6 +107,7 @@ pub record IsPlainOf (bytes : List ℕ) (body : Body) : Type 0 where
   pub encodable : IsEncodable body
   pub some : 0 < length bytes → IsPlain body
 
+-- the data of a number that is read was encoded
 int_back : (bytes : List ℕ) (body : Body) → int_body bytes ≡ Ok body → IsPlainOf (0 ∷ 0 ∷ 0 ∷ 0 ∷ 1 ∷ bytes) body
 int_back bytes body e =
     elim (chosen (ltb (number_of bytes) (2 ^ 64) && bytes_eq (varint (number_of bytes)) bytes) (Ok (Int (from_zigzag (number_of bytes)))) (Err IntForm) body e) [
@@ -176,12 +179,14 @@ kept_local_kept local ts p q = rw (p, q) refl
 abbrev headed : Bool → Bool → Bool → Timestamp → Result Body ValueFault → Result Value ValueFault
 headed front short fine t body = cond (not front) (Err Header) (cond short (Err Short) (cond (not fine) (Err LocalRange) (with_local t body)))
 
+-- a value whose header passes its tests
 headed_is : (front short fine : Bool) (t : Timestamp) (body : Body) → front ≡ true → short ≡ false → fine ≡ true
     → headed front short fine t (Ok body) ≡ Ok (record { local = t; body = body })
 headed_is front short fine t body a b c = rw (a, b, c) refl
 
 -- ---- whole values
 
+-- a value with a header is read again
 header_again : (ts t : Timestamp) (body : Body) → is_no_time t ≡ false → is_in_range t ≡ true → is_before t ts ≡ true → IsEncodable body
     → value_of ts (header t ++ plain_bytes body) ≡ Ok (record { local = t; body = body })
 unfolding value_of
@@ -199,6 +204,7 @@ header_again ts t body some range before coded =
     ∙ ap (λ (b : Result Body ValueFault). headed true (ltb (length bytes) 17) (is_local ts t) t b) (body_of-plain_bytes body coded)
     ∙ headed_is true (ltb (length bytes) 17) (is_local ts t) t body refl (le-ltb (length bytes) 17 long) fine
 
+-- a value without a header is read again
 plain_again : (ts : Timestamp) (body : Body) → IsEncodable body → value_of ts (plain_bytes body) ≡ Ok (record { local = no_time; body = body })
 unfolding value_of
 plain_again ts Deletion coded = refl
@@ -259,6 +265,7 @@ header_back bytes fits long front mark =
     five bytes (0 ∷ 0 ∷ 0 ∷ 0x0c ∷ []) 0x7f (omega arith) front mark
     ∙ ap (λ (xs : List ℕ). 0 ∷ 0 ∷ 0 ∷ 0x0c ∷ 0x7f ∷ xs) rest
 
+-- a value with a header that is read was encoded
 headed_back : (ts : Timestamp) (bytes : List ℕ) (v : Value) → IsBytes bytes → get_or bytes 4 0 ≡ 0x7f → headed_value ts bytes ≡ Ok v → IsValueOf ts bytes v
 unfolding value_bytes
 headed_back ts bytes v fits mark e =

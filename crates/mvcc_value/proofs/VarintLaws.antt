@@ -69,10 +69,12 @@ record Behind (front rest : List ℕ) (n : ℕ) : Type 0 where
   pub some : 0 < n → 0 < number
   pub large : 0 < length front → 128 ≤ n
 
+-- a list with an element is not empty
 no_more : (front : List ℕ) (b : ℕ) (rest : List ℕ) → front ++ b ∷ rest ≡ [] → ⊥
 no_more [] b rest e = cc
 no_more (f ∷ fs) b rest e = cc
 
+-- behind some of the first groups stand the groups of a number
 behind : (front : List ℕ) (b : ℕ) (rest : List ℕ) (n : ℕ) → n < 2 ^ 64 → front ++ b ∷ rest ≡ varint n → Behind front (b ∷ rest) n
 behind [] b rest n lt e = record { number = n; groups_are = e; below = omega arith; some = λ h. h; large = λ h. absurd (omega arith) }
 behind (f ∷ fs) b rest n lt e = by (cases_lt n 128) (behind fs b rest (n / 128) (omega arith))
@@ -115,7 +117,7 @@ some_group n lt e =
       | inr large ↦ let more = varint-large n large lt in cc
     ]
 
--- no bytes are those of no number
+-- the empty list is that of no number
 pub is_varint-nil : is_varint [] ≡ false
 is_varint-nil = is_varint-of_none [] some_group
 

@@ -182,6 +182,12 @@ fn kinds_of_values(rt: HostRuntime) -> Result<(), Fail> {
             ts: Timestamp::NONE,
         };
         assert!(rt; found.value.as_plain() == value);
+        assert!(rt;
+            !is_deletion(&ValueRef {
+                local: Timestamp::NONE,
+                body: Body::from(value)
+            })
+        );
     }
     Ok(())
 }

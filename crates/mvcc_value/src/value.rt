@@ -44,6 +44,17 @@ pub struct Found {
     pub ts: Timestamp,
 }
 
+impl<'a> From<PlainValue<'a>> for Body<'a> {
+    ghost from_gives = { λ v b. seen_body b ≡ plain_body v };
+
+    fn from(value: PlainValue<'a>) -> Body<'a> {
+        match value {
+            PlainValue::Bytes(bytes) => Body::Bytes(bytes),
+            PlainValue::Int(number) => Body::Int(number),
+        }
+    }
+}
+
 impl OwnedValue {
     /// The value with bytes of its own.
     pub fn copy(alloc: Global, value: PlainValue<'_>) -> Result<OwnedValue, OutOfMemory>
