@@ -1,15 +1,20 @@
 //! The types of values.
-use mvcc_key::{Key, Timestamp};
+ghost use Rattle.std.specs.Prelude.{◌≡◌, IfOk};
+ghost use Rattle.mvcc_key.specs.History as history;
+ghost use Rattle.mvcc_value.specs.Seen.{int_of, owned_body, plain_body, seen_body};
+
+use mvcc_key::{Key, OutOfMemory, Timestamp};
+use std::alloc::Global;
 
 /// A value that is no deletion: bytes, or a signed number of 64 bits.
-#[derive(Clone, Copy, Debug)]
+#[derive(Clone, Copy, Debug, PartialEq, Eq)]
 pub enum PlainValue<'a> {
     Bytes(&'a [u8]),
     Int(i64),
 }
 
 /// A value or a deletion.
-#[derive(Clone, Copy, Debug)]
+#[derive(Clone, Copy, Debug, PartialEq, Eq)]
 pub enum Body<'a> {
     Deletion,
     Bytes(&'a [u8]),
@@ -18,7 +23,7 @@ pub enum Body<'a> {
 
 /// A value as a version has it: with the local timestamp at which it was written, or [`Timestamp::NONE`] where that is the
 /// version's own timestamp (CockroachDB `MVCCValueHeader`).
-#[derive(Clone, Copy, Debug)]
+#[derive(Clone, Copy, Debug, PartialEq, Eq)]
 pub struct ValueRef<'a> {
     pub local: Timestamp,
     pub body: Body<'a>,
@@ -29,4 +34,62 @@ pub struct ValueRef<'a> {
 pub enum OwnedValue {
     Bytes(Key),
     Int(i64),
+}
+
+/// A key with its value and the value's timestamp, as reads answer it.
+#[derive(Debug, Drop)]
+pub struct Found {
+    pub key: Key,
+    pub value: OwnedValue,
+    pub ts: Timestamp,
+}
+
+impl<'a> From<PlainValue<'a>> for Body<'a> {
+    ghost from_gives = { λ v b. seen_body b ≡ plain_body v };
+
+    fn from(value: PlainValue<'a>) -> Body<'a> {
+        match value {
+            PlainValue::Bytes(bytes) => Body::Bytes(bytes),
+            PlainValue::Int(number) => Body::Int(number),
+        }
+    }
+}
+
+impl OwnedValue {
+    /// The value with bytes of its own.
+    pub fn copy(alloc: Global, value: PlainValue<'_>) -> Result<OwnedValue, OutOfMemory>
+        ensures { IfOk result (λ v. owned_body v ≡ plain_body value.entry) }
+    {
+        Ok(match value {
+            PlainValue::Bytes(bytes) => OwnedValue::Bytes(Key::copy(alloc, bytes)?),
+            PlainValue::Int(number) => OwnedValue::Int(number),
+        })
+    }
+
+    /// The value, with its bytes lent.
+    pub fn as_plain(&self) -> PlainValue<'_>
+        ensures { plain_body result ≡ owned_body self.now }
+    {
+        match self {
+            OwnedValue::Bytes(bytes) => PlainValue::Bytes(bytes.bytes()),
+            OwnedValue::Int(number) => PlainValue::Int(*number),
+        }
+    }
+}
+
+/// The value is a deletion.
+pub fn is_deletion(value: &ValueRef<'_>) -> bool
+    ensures { result ≡ history.is_deletion (seen_body value.now.body) }
+{
+    matches!(value.body, Body::Deletion)
+}
+
+/// The number that the value is. `None` exactly where it is a deletion or bytes.
+pub fn as_int(value: &ValueRef<'_>) -> Option<i64>
+    ensures { result ≡ int_of (seen_body value.now.body) }
+{
+    match value.body {
+        Body::Int(number) => Some(number),
+        _ => None,
+    }
 }

@@ -1,0 +1,4 @@
+pub mod ValueLaws
+pub mod Examples
+pub mod VarintLaws
+pub mod DecodingLaws
