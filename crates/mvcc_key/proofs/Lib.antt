@@ -22,3 +22,5 @@ pub mod MiddleLaws
 pub mod ApartLaws
 pub mod NamedLaws
 pub mod ClockLaws
+pub mod PointLaws
+pub mod SeenPointLaws

@@ -6,8 +6,8 @@ use Rattle.std.specs.Ordering.{nat_cmp, ordering_then}
 use Rattle.std.specs.Int.{w32, w64, from_be_bytes}
 use Rattle.std.proofs.lemmas.Bool.{ltb-false, and_left, and_right, and_parts, eqb-true}
 use Rattle.mvcc_key.specs.Order.{Timestamp, no_time, is_no_time, is_in_range, record_first, newer_first, key_cmp, Key, Name, name_cmp}
-use Rattle.mvcc_key.specs.KeyFormat.{KeyFault, ZeroTime, ZeroLogical, name_of, without_last, last_bytes, byte_before, with_wall, with_counter}
-use Rattle.mvcc_key.specs.Encoded.{name_in, known_name, rank_of, ReadingWasEncoded, RefusedIsNoEncoding}
+use Rattle.mvcc_key.specs.KeyFormat.{encoded_name, KeyFault, ZeroTime, ZeroLogical, name_of, without_last, last_bytes, byte_before, with_wall, with_counter}
+use Rattle.mvcc_key.specs.Encoded.{IsBytes, IsName, name_in, known_name, rank_of, ReadingWasEncoded, RefusedIsNoEncoding}
 use Rattle.mvcc_key.proofs.KeyFormatLaws.{Passed, tested_ok, Way, Bare, Wall, Counter, by_last_ok, some_length, in_range, IsEncoded-name_of, name_of-encoded_name}
 use Rattle.mvcc_key.proofs.KeyOrderLaws.{nat_cmp_less, nat_cmp_greater}
 
@@ -157,3 +157,13 @@ pub refused-encoded : RefusedIsNoEncoding
 refused-encoded bytes fault n refused range is =
     let read : name_of bytes ≡ Ok n = ap name_of (sym is) ∙ name_of-encoded_name n range in
     absurd cc
+
+-- bytes that are read as a name are its encoding
+pub named-read : (bytes : List ℕ) → IsBytes bytes → IsOk (name_of bytes) → IsName bytes
+named-read bytes fits h = record { read = h; spelled = sym (IsEncoded-name_of bytes (name_in bytes) fits (read_is (name_of bytes) h)).bytes_are }
+
+-- the encoding of a name in range is read as it
+pub named-encoded : (n : Name) → is_in_range n.ts ≡ true → IsName (encoded_name n)
+named-encoded n range =
+    let read = name_of-encoded_name n range in
+    record { read = rw read refl; spelled = ap (λ (r : Result Name KeyFault). encoded_name (known_name r)) read }

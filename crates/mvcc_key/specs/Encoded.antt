@@ -1,5 +1,5 @@
 -- The name that bytes encode, and what holds of encoding and reading.
-use Rattle.std.specs.Prelude.{◌≡◌, ◌≢◌, ℕ, ◌-◌, ◌^◌, ◌<◌, if◌then◌else◌, List, [], slice_index, Result, Ok, Err, true}
+use Rattle.std.specs.Prelude.{◌≡◌, ◌≢◌, ℕ, ◌-◌, ◌^◌, ◌<◌, if◌then◌else◌, List, [], slice_index, Result, Ok, Err, IsOk, true}
 use Rattle.mvcc_key.specs.Order.{Timestamp, no_time, is_no_time, is_in_range, Name}
 use Rattle.mvcc_key.specs.KeyFormat.{encoded_name, name_of, KeyFault}
 
@@ -15,6 +15,11 @@ known_name (Err fault) = record { key = []; ts = no_time }
 -- the name that the bytes are known to encode
 abbrev pub name_in : List ℕ → Name
 name_in bytes = known_name (name_of bytes)
+
+-- the bytes are read as a name, and are its encoding
+pub record IsName (bytes : List ℕ) : Type 0 where
+  pub read : IsOk (name_of bytes)
+  pub spelled : encoded_name (name_in bytes) ≡ bytes
 
 -- where a timestamp stands among the names of its key: the record above all versions
 abbrev pub rank_of : Timestamp → ℕ

@@ -16,5 +16,7 @@ pub mod Pieces
 pub mod Looks
 pub mod Encoded
 pub mod Clock
+pub mod Points
 pub mod Seen
 pub mod SeenKey
+pub mod SeenPoint

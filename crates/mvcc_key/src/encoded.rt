@@ -1,9 +1,9 @@
 //! Encoded keys: the bytes under which the record of a key, or a version of it, is stored.
-ghost use Rattle.std.specs.Prelude.{◌≡◌, ◌≢◌, ◌↔◌, ◌<◌, ◌≤◌, ◌+◌, ◌++◌, [], ◌∷◌, length, vec_len, vec_capacity, if◌then◌else◌, IfOk, IsOk, IsNone, IfSome};
+ghost use Rattle.std.specs.Prelude.{◌≡◌, ◌≢◌, ◌↔◌, ◌<◌, ◌≤◌, ◌+◌, ◌++◌, [], ◌∷◌, length, vec_len, vec_capacity, if◌then◌else◌, IfOk, OnOk, IsOk, IsNone, IfSome};
 ghost use Rattle.std.specs.Int.{w32, to_be_bytes};
 ghost use Rattle.mvcc_key.specs.Order.{is_no_time, name_cmp};
 ghost use Rattle.mvcc_key.specs.KeyFormat.{encoded_name, encoded_time, name_of, with_wall, with_counter, last_bytes, without_last, byte_before};
-ghost use Rattle.mvcc_key.specs.Encoded.{name_in, rank_of};
+ghost use Rattle.mvcc_key.specs.Encoded.{name_in, rank_of, IsName};
 ghost use Rattle.mvcc_key.specs.Seen.{time_of};
 ghost use Rattle.mvcc_key.specs.SeenKey.{reading_of};
 
@@ -108,8 +108,16 @@ fn put_counter(bytes: &mut Vec<u8>, logical: u32)
 
 /// The key and the timestamp that the bytes encode, or the first reason why they encode none. This takes no memory, and the
 /// key is not copied. It may be empty here.
-#[tactic(auto, unfolding(crate::specs::KeyFormat::name_of))]
 pub fn decode_key(bytes: &[u8]) -> Result<KeyRef<'_>, KeyFault>
+    ensures reading { reading_of result ≡ name_of bytes.now }
+    ensures name { OnOk result (IsName bytes.now) }
+{
+    decode(bytes)
+}
+
+/// The reading of bytes, by the last of them.
+#[tactic(auto, unfolding(crate::specs::KeyFormat::name_of))]
+fn decode(bytes: &[u8]) -> Result<KeyRef<'_>, KeyFault>
     ensures { reading_of result ≡ name_of bytes.now }
 {
     match bytes {

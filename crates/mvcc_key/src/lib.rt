@@ -2,17 +2,20 @@
 #![tactic(auto)]
 
 mod batch;
+mod cursor;
 mod encoded;
 mod key;
 mod laws;
 mod list;
 mod memory;
 mod numbers;
+mod pairs;
 mod span;
 mod steps;
 mod timestamp;
 
 pub use batch::{Batch, PointOp, RangeOp};
+pub use cursor::Cursor;
 pub use encoded::{KeyFault, KeyRef, cmp_encoded, decode_key, encode_key};
 pub use key::Key;
 pub use laws::{
@@ -21,6 +24,7 @@ pub use laws::{
 };
 pub use list::{Bytes, Items};
 pub use memory::OutOfMemory;
+pub use pairs::{PairsCursor, SortedPairs};
 pub use span::{SeqRange, Span};
 pub use steps::Steps;
 pub use timestamp::Timestamp;

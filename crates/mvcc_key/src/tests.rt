@@ -1,6 +1,12 @@
-ghost use Rattle.std.specs.Prelude.{◌≡◌, ◌<◌};
+ghost use Rattle.std.specs.Prelude.{◌≡◌, ◌<◌, ◌+◌, ◌^◌, length, IsOk};
+ghost use Rattle.mvcc_key.specs.KeyFormat.{name_of};
+ghost use Rattle.mvcc_key.specs.Encoded.{name_in};
+ghost use Rattle.mvcc_key.specs.Points.{count_below};
+
+mod listed;
 
 use super::*;
+use listed::Listed;
 use std::alloc::Global;
 use std::cmp::Ordering;
 use std::marker::Brand;
@@ -158,4 +164,81 @@ fn counts_one<L: Ledger>(blank: Blank) -> bool
 #[test]
 fn a_counter_is_made(rt: HostRuntime) {
     assert!(rt; counts_one::<Brand>(Blank::new(1)));
+}
+
+/// How many pairs stand at or above the encoded key.
+fn count_from<C: Cursor, L: Ledger>(cursor: &mut C, key: &[u8], steps: &mut Steps<L>) -> u64
+    requires key { IsOk (name_of key.now) }
+    requires few { length (C.points cursor.old) < 2 ^ 63 }
+    ensures { count_below (name_in key.now) (C.points cursor.old) + result ≡ length (C.points cursor.old) }
+{
+    let mut count = 0;
+    cursor.seek_ge(key, steps);
+    while cursor.key().is_some() {
+        count += 1;
+        cursor.next(steps);
+    }
+    count
+}
+
+fn listed_pairs(alloc: Global) -> Result<Listed, OutOfMemory> {
+    let mut pairs = Listed::new(alloc);
+    let set: [(&[u8], u64, Option<&[u8]>); 4] = [
+        (b"a", 0, Some(b"record")),
+        (b"a", 7, Some(b"new")),
+        (b"a", 5, None),
+        (b"c", 1, Some(b"old")),
+    ];
+    for (key, wall, value) in set {
+        let value = match value {
+            Some(bytes) => Some(Bytes::copy(alloc, bytes)?),
+            None => None,
+        };
+        let key = Bytes::of(encode_key(alloc, key, timestamp(wall, 0))?);
+        pairs.push(PointOp { key, value })?;
+    }
+    Ok(pairs)
+}
+
+/// Where a cursor comes to from an encoded key on: how many pairs are from there on, and the value of the last pair below it
+/// and of the one before that.
+fn looked_up<L: Ledger>(
+    pairs: &Listed,
+    key: &[u8],
+    blank: Blank,
+) -> Option<(u64, Option<u8>, Option<u8>)>
+    requires name { blank.name ≡ L.name }
+    requires parts { blank.parts ≡ L.parts }
+    requires some { 0 < blank.parts }
+{
+    if decode_key(key).is_err() {
+        return None;
+    }
+    let mut steps = Steps::<L>::new(blank);
+    let mut cursor = PairsCursor::over(pairs);
+    let count = count_from(&mut cursor, key, &mut steps);
+    cursor.seek_lt(key, &mut steps);
+    let below = cursor.value().and_then(|value| value.first().copied());
+    cursor.prev(&mut steps);
+    let before = cursor.value().and_then(|value| value.first().copied());
+    Some((count, below, before))
+}
+
+#[test]
+fn a_cursor_stands_where_it_was_sent(rt: HostRuntime) -> Result<(), Fail> {
+    let pairs = listed_pairs(rt.alloc())?;
+    let cases: [(&[u8], u64, u64, Option<u8>, Option<u8>); 6] = [
+        (b"", 0, 4, None, None),
+        (b"a", 0, 4, None, None),
+        (b"a", 6, 2, Some(b'n'), Some(b'r')),
+        (b"a", 5, 2, Some(b'n'), Some(b'r')),
+        (b"b", 9, 1, None, Some(b'n')),
+        (b"d", 0, 0, Some(b'o'), None),
+    ];
+    for (key, wall, count, below, before) in cases {
+        let sought = encode_key(rt.alloc(), key, timestamp(wall, 0))?;
+        let found = looked_up::<Brand>(&pairs, sought.as_slice(), Blank::new(1));
+        assert_eq!(rt; found, Some((count, below, before)));
+    }
+    Ok(())
 }

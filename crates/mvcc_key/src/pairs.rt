@@ -1,0 +1,144 @@
+//! Sorted pairs that are reached by their numbers, and the cursor over them.
+ghost use Rattle.std.specs.Prelude.{◌≡◌, ◌≤◌, ◌<◌, ◌+◌, ◌^◌, List, length, slice_get, true, Some, IsTrue, IsOk};
+ghost use Rattle.std.specs.Option.{option_map, option_and_then};
+ghost use Rattle.std.specs.Ordering.{is_lt};
+ghost use Rattle.mvcc_key.specs.Order.{name_cmp};
+ghost use Rattle.mvcc_key.specs.KeyFormat.{encoded_name, name_of};
+ghost use Rattle.mvcc_key.specs.Encoded.{name_in};
+ghost use Rattle.mvcc_key.specs.Looks.{bits};
+ghost use Rattle.mvcc_key.specs.Points.{Point, IsRising, AreEncodable, count_below};
+
+use crate::{Cursor, Steps, cmp_encoded};
+use std::cmp::Ordering;
+use std::sync::ledger::Ledger;
+
+/// The stored pairs of one part, sorted, each reached by its number from 0 on.
+pub trait SortedPairs {
+    /// The pairs in order; a name without a value is cleared.
+    ghost points: { Self → List Point };
+
+    /// How many pairs there are, cleared ones among them.
+    fn len(&self) -> usize
+        ensures count { result ≡ length (points self.now) }
+        ensures small { result < 2 ^ 63 };
+
+    /// The encoded key of a pair.
+    fn key(&self, index: usize) -> &[u8]
+        requires { index < length (points self.now) }
+        ensures { option_map (λ p. encoded_name p.name) (slice_get (points self.now) index) ≡ Some result.now };
+
+    /// The value of a pair, and `None` where it is cleared.
+    fn value(&self, index: usize) -> Option<&[u8]>
+        requires { index < length (points self.now) }
+        ensures { option_map (λ v. v.now) result ≡ option_and_then (λ p. p.value) (slice_get (points self.now) index) };
+
+    ghost rising: { (s : Self) → IsRising (points s) };
+
+    ghost encodable: { (s : Self) → AreEncodable (points s) };
+}
+
+/// One look: whether a stored key is below the one sought.
+fn is_below<L: Ledger>(stored: &[u8], sought: &[u8], steps: &mut Steps<L>) -> bool
+    requires stored { IsOk (name_of stored.now) }
+    requires sought { IsOk (name_of sought.now) }
+    ensures answer { result ≡ is_lt (name_cmp (name_in stored.now) (name_in sought.now)) }
+    ensures cost { steps.new ≡ steps.old + 1 }
+{
+    steps.tick();
+    match cmp_encoded(stored, sought) {
+        Ordering::Less => true,
+        Ordering::Equal | Ordering::Greater => false,
+    }
+}
+
+/// How many pairs are below the encoded key, by halves, each comparison a look.
+fn pairs_below<P: SortedPairs, L: Ledger>(pairs: &P, sought: &[u8], steps: &mut Steps<L>) -> usize
+    requires { IsOk (name_of sought.now) }
+    ensures count { result ≡ count_below (name_in sought.now) (P.points pairs.now) }
+    ensures within { result ≤ length (P.points pairs.now) }
+    ensures small { result < 2 ^ 63 }
+    ensures some { 0 < length (P.points pairs.now) → steps.old < steps.new }
+    ensures later { steps.old ≤ steps.new }
+    ensures bound { steps.new ≤ steps.old + bits (length (P.points pairs.now)) }
+{
+    let mut low = 0;
+    let mut high = pairs.len();
+    while low < high {
+        let middle = low + (high - low) / 2;
+        if is_below(pairs.key(middle), sought, steps) {
+            low = middle + 1;
+        } else {
+            high = middle;
+        }
+    }
+    low
+}
+
+/// The cursor over sorted pairs. Each seek halves.
+#[derive(Drop)]
+pub struct PairsCursor<'a, P: SortedPairs> {
+    pairs: &'a P,
+    at: usize,
+    ghost in_range: { at ≤ length (P.points pairs.now) + 1 },
+}
+
+impl<'a, P: SortedPairs> PairsCursor<'a, P> {
+    /// A cursor before the first of the pairs.
+    pub fn over(pairs: &'a P) -> Self
+        ensures points { ⟦<PairsCursor<'a, P> as Cursor>⟧.points result ≡ P.points pairs.now }
+        ensures place { ⟦<PairsCursor<'a, P> as Cursor>⟧.place result ≡ 0 }
+        ensures part { IsTrue (⟦<PairsCursor<'a, P> as Cursor>⟧.is_part result) }
+    {
+        PairsCursor { pairs, at: 0 }
+    }
+}
+
+impl<P: SortedPairs> Cursor for PairsCursor<'_, P> {
+    ghost points = { λ c. P.points c.pairs.now };
+
+    ghost place = { λ c. c.at };
+
+    ghost is_part = { λ _. true };
+
+    ghost rising = { λ c. P.rising c.pairs.now };
+
+    ghost encodable = { λ c. P.encodable c.pairs.now };
+
+    ghost in_range = { λ c. c.in_range };
+
+    fn seek_ge<L: Ledger>(&mut self, key: &[u8], steps: &mut Steps<L>) {
+        self.at = pairs_below(self.pairs, key, steps) + 1;
+    }
+
+    fn seek_lt<L: Ledger>(&mut self, key: &[u8], steps: &mut Steps<L>) {
+        self.at = pairs_below(self.pairs, key, steps);
+    }
+
+    fn next<L: Ledger>(&mut self, steps: &mut Steps<L>) {
+        if self.at <= self.pairs.len() {
+            steps.tick();
+            self.at += 1;
+        }
+    }
+
+    fn prev<L: Ledger>(&mut self, steps: &mut Steps<L>) {
+        if self.at > 0 {
+            steps.tick();
+            self.at -= 1;
+        }
+    }
+
+    fn key(&self) -> Option<&[u8]> {
+        if self.at == 0 || self.at > self.pairs.len() {
+            return None;
+        }
+        Some(self.pairs.key(self.at - 1))
+    }
+
+    fn value(&self) -> Option<&[u8]> {
+        if self.at == 0 || self.at > self.pairs.len() {
+            return None;
+        }
+        self.pairs.value(self.at - 1)
+    }
+}
