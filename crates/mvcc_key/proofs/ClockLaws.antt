@@ -7,11 +7,11 @@ use Rattle.mvcc_key.specs.Clock.{NextIsUndone, PreviousIsUndone}
 use Rattle.mvcc_key.proofs.KeyFormatLaws.{in_range}
 
 -- a timestamp by its numbers
-abbrev at : ℕ → ℕ → Timestamp
+abbrev pub at : ℕ → ℕ → Timestamp
 at wall logical = record { wall = wall; logical = logical }
 
 -- numbers in range
-range_from : (wall logical : ℕ) → wall < 2 ^ 63 → logical < 2 ^ 31 → is_in_range (at wall logical) ≡ true
+pub range_from : (wall logical : ℕ) → wall < 2 ^ 63 → logical < 2 ^ 31 → is_in_range (at wall logical) ≡ true
 range_from wall logical p q = and_from _ _ (le-leb wall (2 ^ 63 - 1) (omega arith)) (le-leb logical (2 ^ 31 - 1) (omega arith))
 
 -- the timestamp before one with a counter, and before one without

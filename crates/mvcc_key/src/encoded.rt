@@ -1,5 +1,5 @@
 //! Encoded keys: the bytes under which the record of a key, or a version of it, is stored.
-ghost use Rattle.std.specs.Prelude.{◌≡◌, ◌≢◌, ◌↔◌, ◌<◌, ◌≤◌, ◌+◌, ◌++◌, [], ◌∷◌, length, vec_len, vec_capacity, if◌then◌else◌, IfOk, OnOk, IsOk, IsNone, IfSome};
+ghost use Rattle.std.specs.Prelude.{◌≡◌, ◌≢◌, ◌↔◌, ◌<◌, ◌≤◌, ◌+◌, ◌++◌, [], ◌∷◌, length, vec_len, vec_capacity, if◌then◌else◌, Ok, IfOk, OnOk, IsOk, IsNone, IfSome};
 ghost use Rattle.std.specs.Int.{w32, to_be_bytes};
 ghost use Rattle.mvcc_key.specs.Order.{is_no_time, name_cmp};
 ghost use Rattle.mvcc_key.specs.KeyFormat.{encoded_name, encoded_time, name_of, with_wall, with_counter, last_bytes, without_last, byte_before};
@@ -58,16 +58,12 @@ pub struct KeyRef<'a> {
 /// The bytes under which the version of the key at this timestamp is stored, or the key's record where the timestamp is
 /// [`Timestamp::NONE`] (CockroachDB `pkg/storage` `EncodeMVCCKey`): the key, a byte 00, and where there is a timestamp its
 /// wall time in 8 bytes, its counter in 4 where that is not 0, and a byte 09 or 0d. All memory is taken at once.
-#[tactic(auto, unfolding(crate::specs::KeyFormat::encoded_name))]
 pub fn encode_key(alloc: Global, key: &[u8], ts: Timestamp) -> Result<Vec<u8>, OutOfMemory>
-    ensures { IfOk result (λ v. v.items ≡ encoded_name (record { key = key.now; ts = time_of ts })) }
+    ensures bytes { IfOk result (λ v. v.items ≡ encoded_name (record { key = key.now; ts = time_of ts })) }
+    ensures read { IfOk result (λ v. name_of v.items ≡ Ok (record { key = key.now; ts = time_of ts })) }
 {
     let mut bytes = Vec::with_capacity(alloc, key.len() + encoded_len(ts))?;
-    bytes.extend_from_slice(key).unwrap();
-    bytes.push(SENTINEL).unwrap();
-    if ts != Timestamp::NONE {
-        put_time(&mut bytes, ts);
-    }
+    put_name(&mut bytes, key, ts);
     Ok(bytes)
 }
 
@@ -81,6 +77,19 @@ fn encoded_len(ts: Timestamp) -> usize
         10
     } else {
         14
+    }
+}
+
+/// Puts an encoded key at the end, where there is room.
+#[tactic(auto, unfolding(crate::specs::KeyFormat::encoded_name))]
+fn put_name(bytes: &mut Vec<u8>, key: &[u8], ts: Timestamp)
+    requires { vec_len bytes.old + (length key.now + (if is_no_time (time_of ts) then 1 else 1 + length (encoded_time (time_of ts)))) ≤ vec_capacity bytes.old }
+    ensures { bytes.new.items ≡ bytes.old.items ++ encoded_name (record { key = key.now; ts = time_of ts }) }
+{
+    bytes.extend_from_slice(key).unwrap();
+    bytes.push(SENTINEL).unwrap();
+    if ts != Timestamp::NONE {
+        put_time(bytes, ts);
     }
 }
 
