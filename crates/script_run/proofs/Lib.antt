@@ -1,0 +1,14 @@
+-- What each module of lemmas speaks of.
+pub mod VersionLaws
+pub mod Search
+pub mod RuleLaws
+pub mod NumberLaws
+pub mod WordLaws
+pub mod TextLaws
+pub mod StepLaws
+pub mod LineLaws
+pub mod ReadLaws
+pub mod GatherLaws
+pub mod OutputLaws
+pub mod RunLaws
+pub mod Examples

@@ -1,0 +1,45 @@
+-- The lines of a script, from the front, and its whole lines, from the back.
+use Rattle.std.specs.Prelude.{◌≡◌, ℕ, ◌+◌, ◌<◌, Bool, true, false, List, [], ◌∷◌, ◌++◌, length, take, drop, position, ◌==◌, Some, None}
+use Rattle.std.proofs.Common.{refl, sym, ap, ◌∙◌, arith}
+use Rattle.mvcc_key.specs.Cutting.{pieces}
+use Rattle.mvcc_key.proofs.CuttingLaws.{pieces_some}
+use Rattle.script_run.specs.Output.{lines, without_empty_end, up_to_newline, whole_part}
+use Rattle.script_run.proofs.WordLaws.{pieces-cut, pieces-uncut}
+
+abbrev is_newline : ℕ → Bool
+is_newline b = b == 0x0a
+
+first_kept : (l : List ℕ) (ps : List (List ℕ)) (p : List ℕ) (rest : List (List ℕ)) → ps ≡ p ∷ rest → without_empty_end (l ∷ ps) ≡ l ∷ without_empty_end ps
+first_kept l ps p rest is = rw is refl
+
+-- a line that ends in a newline, and the lines behind it
+pub lines-cut : (xs : List ℕ) (i : ℕ) → position (λ b. b == 0x0a) xs ≡ Some i → lines xs ≡ take i xs ∷ lines (drop (i + 1) xs)
+unfolding lines
+lines-cut xs i at =
+    let some = pieces_some is_newline (drop (i + 1) xs) in
+    ap without_empty_end (pieces-cut is_newline xs i at) ∙ first_kept (take i xs) (pieces is_newline (drop (i + 1) xs)) some.0 some.1 some.2
+
+-- a last line without a newline
+pub lines-uncut : (xs rest : List ℕ) → position (λ b. b == 0x0a) xs ≡ None → 0 < length xs → rest ≡ [] → lines xs ≡ xs ∷ lines rest
+unfolding lines
+lines-uncut xs rest none some is = ap without_empty_end (pieces-uncut is_newline xs none) ∙ by xs some ∙ ap (λ l. xs ∷ without_empty_end (pieces is_newline l)) (sym is)
+  where
+    by : (ys : List ℕ) → 0 < length ys → without_empty_end (ys ∷ []) ≡ ys ∷ []
+    by [] h = absurd (omega arith)
+    by (y ∷ ys) h = refl
+
+pub up_to-more : (x : ℕ) (xs : List ℕ) (b : ℕ) → up_to_newline x (xs ++ b ∷ []) ≡ x ∷ (xs ++ b ∷ [])
+up_to-more x [] b = refl
+up_to-more x (y ∷ ys) b = refl
+
+-- a newline at the end is kept, with all before it
+pub whole_part-newline : (xs : List ℕ) (b : ℕ) → (b == 0x0a) ≡ true → whole_part (xs ++ b ∷ []) ≡ xs ++ b ∷ []
+unfolding whole_part
+whole_part-newline [] b is = rw is refl
+whole_part-newline (x ∷ xs) b is = ap (up_to_newline x) (whole_part-newline xs b is) ∙ up_to-more x xs b
+
+-- any other byte at the end is left out
+pub whole_part-other : (xs : List ℕ) (b : ℕ) → (b == 0x0a) ≡ false → whole_part (xs ++ b ∷ []) ≡ whole_part xs
+unfolding whole_part
+whole_part-other [] b is = rw is refl
+whole_part-other (x ∷ xs) b is = ap (up_to_newline x) (whole_part-other xs b is)

@@ -1,0 +1,22 @@
+-- Text that is appended piece by piece.
+use Rattle.std.specs.Prelude.{◌≡◌, ℕ, List, [], ◌++◌, Result, Ok, Err, OnOk, OnErr}
+use Rattle.std.proofs.Common.{sym, ap, ◌∙◌, append-nil, append_assoc}
+use Rattle.script_run.specs.Promise.{Extends}
+
+-- what stays the same is old with nothing behind it
+pub Extends-same : (old new : List ℕ) → new ≡ old → Extends old new
+Extends-same old new same = ([], same ∙ sym (append-nil old))
+
+-- what holds anyhow holds of an error
+pub on_err : {T E : Type 0} {P : Type 0} (r : Result T E) → P → OnErr r P
+on_err (Ok x) p = tt
+on_err (Err e) p = p
+
+-- two pieces
+pub two_pieces : (old mid new first second : List ℕ) → mid ≡ old ++ first → new ≡ mid ++ second → new ≡ old ++ (first ++ second)
+two_pieces old mid new first second one two = two ∙ ap (λ l. l ++ second) one ∙ append_assoc old first second
+
+-- what holds anyhow holds of a success
+pub on_ok : {T E : Type 0} {P : Type 0} (r : Result T E) → P → OnOk r P
+on_ok (Ok x) p = p
+on_ok (Err e) p = tt

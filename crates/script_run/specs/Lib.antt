@@ -1,0 +1,12 @@
+pub mod CommandLine
+pub mod Grammar
+pub mod Text
+pub mod Read
+pub mod Write
+pub mod Step
+pub mod Output
+pub mod Promise
+pub mod Gathering
+pub mod Places
+pub mod Seen
+pub mod Ending
