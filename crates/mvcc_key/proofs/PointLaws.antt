@@ -16,7 +16,11 @@ use Rattle.mvcc_key.specs.Order.{Name, name_cmp}
 use Rattle.mvcc_key.specs.KeyFormat.{encoded_name, name_of}
 use Rattle.mvcc_key.specs.Encoded.{name_in}
 use Rattle.mvcc_key.specs.Points.{Point, point_cmp, IsRisingBy, IsRising, AreEncodable, point_at, key_at, is_below_name, count_below}
+use Rattle.mvcc_key.specs.Lists.{in_order}
 use Rattle.mvcc_key.proofs.OrderLaws.{name_cmp-total}
+use Rattle.mvcc_key.proofs.SortedLaws.{in_order-sorted}
+use Rattle.std.specs.Cmp.{IsTotalOrder}
+use Rattle.std.proofs.lemmas.Cmp.{on_total}
 use Rattle.mvcc_key.proofs.KeyFormatLaws.{name_of-encoded_name}
 
 -- ---- how many points are below a name
@@ -348,3 +352,11 @@ rising-sorted (p ∷ ps) sorted zero (suc j) a b lt is there = (let same : p ≡
     each (q ∷ qs) h (suc i) r is = each qs h.1 i r is
 rising-sorted (p ∷ ps) sorted (suc i) zero a b lt is there = absurd (omega arith)
 rising-sorted (p ∷ ps) sorted (suc i) (suc j) a b lt is there = rising-sorted ps sorted.1 i j a b (omega arith) is there
+
+-- the order of points is total
+pub point_cmp-total : IsTotalOrder point_cmp
+point_cmp-total = on_total (λ p. p.name) name_cmp-total
+
+-- points that are put in order rise
+pub rising-in_order : (points : List Point) → IsRising (in_order point_cmp points)
+rising-in_order points = rising-sorted (in_order point_cmp points) (in_order-sorted point_cmp-total points)
