@@ -1,1 +1,5 @@
 pub mod PlaceLaws
+pub mod PartitionLaws
+pub mod PartLaws
+pub mod JoiningLaws
+pub mod TimesLaws

@@ -13,6 +13,14 @@ use Rattle.mvcc_key.proofs.StackLaws.{le_trans, below_means, not_below_is}
 use Rattle.mvcc_key.proofs.UniqueLaws.{above_means}
 use Rattle.range_key.specs.Places.{EndsAbove}
 
+-- what is not at or below a bound is above it
+pub not_at_is : (a b : Key) → is_at_or_below a b ≡ false → is_below b a ≡ true
+not_at_is a b h = by (is_below b a) refl
+  where
+    by : (t : Bool) → is_below b a ≡ t → t ≡ true
+    by true e = refl
+    by false e = let le : is_at_or_below a b ≡ true = not_below_is b a e in cc
+
 -- pieces behind a bound end behind it
 pub ends_behind : (b : Key) (fs : List Fragment) (m : ℕ) (g : Fragment) → ArePieces fs → StartsFrom b fs → slice_get fs m ≡ Some g → is_at_or_below b g.end ≡ true
 ends_behind b [] m g p s at = cc
@@ -37,14 +45,7 @@ pub ends_above-drop : (key : Key) (fs : List Fragment) (m : ℕ) (g : Fragment) 
     → EndsAbove key (drop m fs)
 ends_above-drop key [] zero g at up = tt
 ends_above-drop key [] (suc m) g at up = tt
-ends_above-drop key (f ∷ fs) zero g at up = let same : f ≡ g = cc in rw same (not_at_is g.end key up)
-  where
-    not_at_is : (a b : Key) → is_at_or_below a b ≡ false → is_below b a ≡ true
-    not_at_is a b h = by (is_below b a) refl
-      where
-        by : (t : Bool) → is_below b a ≡ t → t ≡ true
-        by true e = refl
-        by false e = let le : is_at_or_below a b ≡ true = not_below_is b a e in cc
+ends_above-drop key (f ∷ fs) zero g at up = let same : f ≡ g = cc in rw same up
 ends_above-drop key (f ∷ fs) (suc m) g at up = ends_above-drop key fs m g at up
 
 -- no piece contains a key below the first of them
@@ -64,10 +65,13 @@ pub find-at : (key : Key) (fs : List Fragment) (place : ℕ) → ArePieces fs �
 find-at key [] place p before from = refl
 find-at key (f ∷ fs) zero p before from = by (is_at_or_below f.start key) refl
   where
+    low : is_below key f.end ≡ true
+    low = not_at_is f.end key from
+
     by : (t : Bool) → is_at_or_below f.start key ≡ t
         → cond (t && is_below key f.end) (Some f) (find (λ f. is_within f.start f.end key) fs) ≡ cond t (Some f) None
-    by true e = ap (λ t. cond t (Some f) (find (λ f. is_within f.start f.end key) fs)) from
-    by false e = find-below fs f.end key p.2 p.1 from
+    by true e = ap (λ t. cond t (Some f) (find (λ f. is_within f.start f.end key) fs)) low
+    by false e = find-below fs f.end key p.2 p.1 low
 find-at key (f ∷ fs) (suc place) p before from =
     next (slice_get fs place) (sym skip) (find-at key fs place p.2 before.1 from)
   where

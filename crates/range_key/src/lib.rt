@@ -1,10 +1,14 @@
 //! Range tombstones as fragments: maximal spans of keys with one stack of timestamps each.
 #![tactic(auto)]
 
+mod change;
+mod cut;
 mod fragment;
 mod list;
+mod pieces;
 mod place;
 mod stack;
+mod taken;
 
 pub use fragment::Fragment;
 pub use list::FragmentList;

@@ -1,13 +1,15 @@
 //! Lists of fragments.
-ghost use Rattle.std.specs.Prelude.{◌≡◌, ◌+◌, ◌≤◌, [], length, slice_get, find, IsTrue, ◌↔◌};
+ghost use Rattle.std.specs.Prelude.{◌≡◌, ◌+◌, ◌≤◌, [], length, slice_get, find, IsTrue, ◌↔◌, IfOk};
+ghost use Rattle.mvcc_key.specs.Fragments.{cut_to};
 ghost use Rattle.std.specs.Option.{option_copied};
 ghost use Rattle.mvcc_key.specs.Canonical.{IsCanonical};
 ghost use Rattle.mvcc_key.specs.Looks.{bits};
 ghost use Rattle.mvcc_key.specs.Order.{is_within};
 
 use crate::Fragment;
+use crate::cut::cut;
 use crate::place::fragment_at;
-use mvcc_key::Steps;
+use mvcc_key::{OutOfMemory, Steps};
 use std::alloc::Global;
 use std::marker::Model;
 use std::sync::ledger::Ledger;
@@ -68,6 +70,15 @@ impl FragmentList {
         ensures canonical { IsCanonical self.now }
     {
         self.held.as_slice()
+    }
+
+    /// The fragments cut to the span.
+    pub fn truncate(&self, start: &[u8], end: &[u8]) -> Result<FragmentList, OutOfMemory>
+        ensures value { IfOk result (λ l. l ≡ cut_to start.now end.now self.now) }
+        ensures canonical { IfOk result IsCanonical }
+    {
+        let held = cut(*self.held.allocator(), &self.held, start, end)?;
+        Ok(FragmentList { held })
     }
 
     /// The fragment that contains the key, where there is one. It is found by halving: each fragment compared is a look.

@@ -4,8 +4,8 @@ ghost use Rattle.std.specs.Option.{option_copied};
 ghost use Rattle.mvcc_key.specs.Canonical.{IsCanonical};
 ghost use Rattle.mvcc_key.specs.Looks.{bits};
 ghost use Rattle.mvcc_key.specs.Order.{is_at_or_below, is_within};
-ghost use Rattle.mvcc_key.specs.Pieces.{EndBy};
-ghost use Rattle.range_key.specs.Places.{EndsAbove};
+ghost use Rattle.mvcc_key.specs.Pieces.{EndBy, EndBelow, StartsFrom, StartsAbove};
+ghost use Rattle.range_key.specs.Places.{EndsAbove, EndsFrom, StartBy, StartBelow};
 
 use crate::Fragment;
 use mvcc_key::Steps;
@@ -69,4 +69,44 @@ pub(crate) fn fragment_at<'a, L: Ledger>(
     } else {
         None
     }
+}
+
+/// How many fragments end below the key.
+pub(crate) fn ending_below(fragments: &[Fragment], key: &[u8]) -> usize
+    requires { IsCanonical fragments.now }
+    ensures within { result ≤ length fragments.now }
+    ensures before { EndBelow key.now (take result fragments.now) }
+    ensures from { EndsFrom key.now (drop result fragments.now) }
+{
+    fragments.partition_point(|fragment| fragment.end_bytes().cmp(key).is_lt())
+}
+
+/// How many fragments end at the key or below it.
+pub(crate) fn ending_by(fragments: &[Fragment], key: &[u8]) -> usize
+    requires { IsCanonical fragments.now }
+    ensures within { result ≤ length fragments.now }
+    ensures before { EndBy key.now (take result fragments.now) }
+    ensures from { EndsAbove key.now (drop result fragments.now) }
+{
+    fragments.partition_point(|fragment| fragment.end_bytes().cmp(key).is_le())
+}
+
+/// How many fragments start below the key.
+pub(crate) fn starting_below(fragments: &[Fragment], key: &[u8]) -> usize
+    requires { IsCanonical fragments.now }
+    ensures within { result ≤ length fragments.now }
+    ensures before { StartBelow key.now (take result fragments.now) }
+    ensures from { StartsFrom key.now (drop result fragments.now) }
+{
+    fragments.partition_point(|fragment| fragment.start_bytes().cmp(key).is_lt())
+}
+
+/// How many fragments start at the key or below it.
+pub(crate) fn starting_by(fragments: &[Fragment], key: &[u8]) -> usize
+    requires { IsCanonical fragments.now }
+    ensures within { result ≤ length fragments.now }
+    ensures before { StartBy key.now (take result fragments.now) }
+    ensures from { StartsAbove key.now (drop result fragments.now) }
+{
+    fragments.partition_point(|fragment| fragment.start_bytes().cmp(key).is_le())
 }
