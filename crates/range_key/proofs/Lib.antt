@@ -3,3 +3,4 @@ pub mod PartitionLaws
 pub mod PartLaws
 pub mod JoiningLaws
 pub mod TimesLaws
+pub mod ChangedLaws

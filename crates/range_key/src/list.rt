@@ -1,15 +1,22 @@
 //! Lists of fragments.
-ghost use Rattle.std.specs.Prelude.{◌≡◌, ◌+◌, ◌≤◌, [], length, slice_get, find, IsTrue, ◌↔◌, IfOk};
-ghost use Rattle.mvcc_key.specs.Fragments.{cut_to};
+ghost use Rattle.std.specs.Prelude.{◌≡◌, ◌+◌, ◌≤◌, [], length, slice_get, find, IsTrue, ◌↔◌, IfOk, OnOk, OnErr, filter, take, drop, ◌++◌, List};
+ghost use Rattle.mvcc_key.specs.Seen.{time_of};
+ghost use Rattle.range_key.specs.Changes.{AddsTombstone, PutsOver, TakesFrom, TakesOut, tombstones_after, with_operation};
+ghost use Rattle.range_key.specs.Taken.{is_taken};
+ghost use Rattle.std.specs.List.{AllPass};
+ghost use Rattle.mvcc_key.specs.History.{RangeTombstone};
+ghost use Rattle.mvcc_key.specs.Fragments.{cut_to, fragments};
 ghost use Rattle.std.specs.Option.{option_copied};
-ghost use Rattle.mvcc_key.specs.Canonical.{IsCanonical};
+ghost use Rattle.mvcc_key.specs.Canonical.{IsCanonical, is_apart};
 ghost use Rattle.mvcc_key.specs.Looks.{bits};
-ghost use Rattle.mvcc_key.specs.Order.{is_within};
+ghost use Rattle.mvcc_key.specs.Order.{is_below, is_in_window, is_within};
 
 use crate::Fragment;
+use crate::change::{added, thinned};
 use crate::cut::cut;
-use crate::place::fragment_at;
-use mvcc_key::{OutOfMemory, Steps};
+use crate::place::{fragment_at, touched};
+use crate::taken::Taken;
+use mvcc_key::{OutOfMemory, RangeOp, Steps, Timestamp};
 use std::alloc::Global;
 use std::marker::Model;
 use std::sync::ledger::Ledger;
@@ -39,6 +46,33 @@ impl FragmentList {
     {
         FragmentList {
             held: Vec::new(alloc),
+        }
+    }
+
+    /// The fragments after these operations, each on what the one before it left: one that sets lays its tombstone over its
+    /// span, and one that removes takes its very timestamp out of it.
+    pub fn of_ops(alloc: Global, ops: &[RangeOp]) -> Result<FragmentList, OutOfMemory>
+        requires { AllPass (λ op. is_below op.start op.end) ops.now }
+        ensures value { IfOk result (λ l. l ≡ fragments (tombstones_after ops.now)) }
+        ensures canonical { IfOk result IsCanonical }
+    {
+        let mut list = FragmentList::new(alloc);
+        for op in ops {
+            list.apply(op)?;
+        }
+        Ok(list)
+    }
+
+    /// Carries out one operation.
+    fn apply(&mut self, op: &RangeOp) -> Result<(), OutOfMemory>
+        requires { IsTrue (is_below op.now.start op.now.end) }
+        ensures ok { OnOk result ((tombstones : List RangeTombstone) → self.old ≡ fragments tombstones → self.new ≡ fragments (with_operation tombstones op.now)) }
+        ensures err { OnErr result (self.new ≡ self.old) }
+    {
+        let (start, end) = (op.start.bytes(), op.end.bytes());
+        match op.set {
+            Some(_) => self.add(start, end, op.ts),
+            None => self.take_out(start, end, Taken::One(op.ts)),
         }
     }
 
@@ -77,8 +111,77 @@ impl FragmentList {
         ensures value { IfOk result (λ l. l ≡ cut_to start.now end.now self.now) }
         ensures canonical { IfOk result IsCanonical }
     {
-        let held = cut(*self.held.allocator(), &self.held, start, end)?;
+        let held = cut(self.alloc(), self.as_slice(), start, end)?;
         Ok(FragmentList { held })
+    }
+
+    /// Lays a tombstone over the span: its timestamp is over each key there, once. Only the fragments that overlap the span or
+    /// abut it are looked at, and the fragments behind them are moved once. The memory is taken before the first change.
+    pub fn add(&mut self, start: &[u8], end: &[u8], ts: Timestamp) -> Result<(), OutOfMemory>
+        requires { IsTrue (is_below start.now end.now) }
+        ensures ok { OnOk result (AddsTombstone start.now end.now (time_of ts) self.old self.new) }
+        ensures stacks { OnOk result (PutsOver start.now end.now (time_of ts) self.old self.new) }
+        ensures apart { filter (is_apart start.now end.now) self.new ≡ filter (is_apart start.now end.now) self.old }
+        ensures canonical { IsCanonical self.new }
+        ensures err { OnErr result (self.new ≡ self.old) }
+    {
+        let fragments = self.as_slice();
+        let (low, high) = touched(fragments, start, end);
+        let pieces = added(self.alloc(), &fragments[low..high], start, end, ts)?;
+        self.replace(low, high, pieces)?;
+        Ok(())
+    }
+
+    /// Takes the timestamps above `from` and at or below `to` out of the span. Only the fragments that overlap the span or abut
+    /// it are looked at, and the fragments behind them are moved once. The memory is taken before the first change.
+    pub fn remove(
+        &mut self,
+        start: &[u8],
+        end: &[u8],
+        from: Timestamp,
+        to: Timestamp,
+    ) -> Result<(), OutOfMemory>
+        requires { IsTrue (is_below start.now end.now) }
+        ensures ok { OnOk result (TakesOut start.now end.now (is_in_window (time_of from) (time_of to)) self.old self.new) }
+        ensures stacks { OnOk result (TakesFrom start.now end.now (is_in_window (time_of from) (time_of to)) self.old self.new) }
+        ensures apart { filter (is_apart start.now end.now) self.new ≡ filter (is_apart start.now end.now) self.old }
+        ensures canonical { IsCanonical self.new }
+        ensures err { OnErr result (self.new ≡ self.old) }
+    {
+        self.take_out(start, end, Taken::Window(from, to))
+    }
+
+    /// Takes timestamps out of the span.
+    fn take_out(&mut self, start: &[u8], end: &[u8], taken: Taken) -> Result<(), OutOfMemory>
+        requires { IsTrue (is_below start.now end.now) }
+        ensures ok { OnOk result (TakesOut start.now end.now (is_taken taken) self.old self.new) }
+        ensures stacks { OnOk result (TakesFrom start.now end.now (is_taken taken) self.old self.new) }
+        ensures apart { filter (is_apart start.now end.now) self.new ≡ filter (is_apart start.now end.now) self.old }
+        ensures canonical { IsCanonical self.new }
+        ensures err { OnErr result (self.new ≡ self.old) }
+    {
+        let fragments = self.as_slice();
+        let (low, high) = touched(fragments, start, end);
+        let pieces = thinned(self.alloc(), &fragments[low..high], start, end, taken)?;
+        self.replace(low, high, pieces)?;
+        Ok(())
+    }
+
+    /// Puts the pieces in the place of the fragments from the first place up to, and without, the second.
+    fn replace(&mut self, low: usize, high: usize, pieces: Vec<Fragment>) -> Result<(), OutOfMemory>
+        requires ordered { low ≤ high }
+        requires within { high ≤ length self.old }
+        requires canonical { IsCanonical (take low self.old ++ (pieces.items ++ drop high self.old)) }
+        ensures ok { OnOk result (self.new ≡ take low self.old ++ (pieces.items ++ drop high self.old)) }
+        ensures err { OnErr result (self.new ≡ self.old) }
+    {
+        self.held.splice(low..high, pieces)?;
+        Ok(())
+    }
+
+    /// The allocator.
+    fn alloc(&self) -> Global {
+        *self.held.allocator()
     }
 
     /// The fragment that contains the key, where there is one. It is found by halving: each fragment compared is a look.

@@ -51,12 +51,7 @@ impl Pieces {
     }
 
     /// Puts a piece behind the others.
-    pub(crate) fn push(
-        &mut self,
-        start: &[u8],
-        end: &[u8],
-        stack: Stack,
-    ) -> Result<(), OutOfMemory>
+    pub(crate) fn push(&mut self, start: &[u8], end: &[u8], stack: Stack) -> Result<(), OutOfMemory>
         ensures { OnOk result (self.new ≡ joined_with self.old (piece start.now end.now stack)) }
     {
         let alloc = self.alloc();

@@ -1,5 +1,5 @@
 //! Places in a list of fragments, found by halving.
-ghost use Rattle.std.specs.Prelude.{◌≡◌, ◌+◌, ◌≤◌, length, take, drop, find};
+ghost use Rattle.std.specs.Prelude.{◌≡◌, ◌+◌, ◌≤◌, length, take, drop, find, slice_range};
 ghost use Rattle.std.specs.Option.{option_copied};
 ghost use Rattle.mvcc_key.specs.Canonical.{IsCanonical};
 ghost use Rattle.mvcc_key.specs.Looks.{bits};
@@ -109,4 +109,19 @@ pub(crate) fn starting_by(fragments: &[Fragment], key: &[u8]) -> usize
     ensures from { StartsAbove key.now (drop result fragments.now) }
 {
     fragments.partition_point(|fragment| fragment.start_bytes().cmp(key).is_le())
+}
+
+/// The places of the fragments that overlap the span or abut it: from the first up to, and without, the second.
+pub(crate) fn touched(fragments: &[Fragment], start: &[u8], end: &[u8]) -> (usize, usize)
+    requires { IsCanonical fragments.now }
+    ensures ordered { result.0 ≤ result.1 }
+    ensures within { result.1 ≤ length fragments.now }
+    ensures left { EndBelow start.now (take result.0 fragments.now) }
+    ensures from { EndsFrom start.now (slice_range fragments.now result.0 result.1) }
+    ensures by { StartBy end.now (slice_range fragments.now result.0 result.1) }
+    ensures right { StartsAbove end.now (drop result.1 fragments.now) }
+{
+    let low = ending_below(fragments, start);
+    let (_, rest) = fragments.split_at(low);
+    (low, low + starting_by(rest, end))
 }

@@ -16,5 +16,5 @@ returns c =
     record {
       within = c.partition_point.ensures.bound;
       before = parted-before test c.args.fragments.now _ point;
-      from =  parted-from test c.args.fragments.now _ point;
+      from = parted-from test c.args.fragments.now _ point;
     }

@@ -5,10 +5,12 @@ use Rattle.range_key.proofs.list.FragmentList.truncate.Goals as goal
 
 pub invariant_of-result : goal.invariant_of-result
 invariant_of-result c =
+    let shown = c.as_slice in
     subst IsCanonical (sym c.in_ok-held.ensures)
-    (cut_to-canonical c.args.start.now c.args.end.now c.deref.result.now (subst IsCanonical (sym c.deref.ensures.value) c.self.invariant))
+    (cut_to-canonical c.args.start.now c.args.end.now shown.result.now (subst IsCanonical (sym shown.ensures.value) shown.ensures.canonical))
 
 pub returns-clause-canonical : goal.returns-clause-canonical
 returns-clause-canonical c =
+    let shown = c.as_slice in
     subst IsCanonical (sym c.in_ok-held.ensures)
-    (cut_to-canonical c.args.start.now c.args.end.now c.deref.result.now (subst IsCanonical (sym c.deref.ensures.value) c.self.invariant))
+    (cut_to-canonical c.args.start.now c.args.end.now shown.result.now (subst IsCanonical (sym shown.ensures.value) shown.ensures.canonical))
