@@ -4,26 +4,11 @@ ghost use Rattle.mvcc_key.specs.Pieces.{piece};
 ghost use Rattle.std.specs.Option.{option_to_list};
 ghost use Rattle.mvcc_key.specs.Canonical.{IsCanonical};
 ghost use Rattle.mvcc_key.specs.Fragments.{cut_to, part_within};
-ghost use Rattle.mvcc_key.specs.Order.{higher_key, lower_key};
 
 use crate::Fragment;
 use crate::place::{ending_by, starting_below};
 use mvcc_key::OutOfMemory;
 use std::alloc::Global;
-
-/// The higher of two bounds.
-fn higher<'a>(a: &'a [u8], b: &'a [u8]) -> &'a [u8]
-    ensures { result.now ≡ higher_key a.now b.now }
-{
-    if a.cmp(b).is_lt() { b } else { a }
-}
-
-/// The lower of two bounds.
-fn lower<'a>(a: &'a [u8], b: &'a [u8]) -> &'a [u8]
-    ensures { result.now ≡ lower_key a.now b.now }
-{
-    if b.cmp(a).is_lt() { b } else { a }
-}
 
 /// The bounds of the part of a fragment within a span, where there is one.
 pub(crate) fn bounds_within<'a>(
@@ -34,8 +19,8 @@ pub(crate) fn bounds_within<'a>(
     ensures { MatchOption result (part_within start.now end.now fragment.now ≡ [])
         (λ bounds. part_within start.now end.now fragment.now ≡ piece bounds.0.now bounds.1.now fragment.now.stack ∷ []) }
 {
-    let low = higher(start, fragment.start_bytes());
-    let high = lower(end, fragment.end_bytes());
+    let low = fragment.start_bytes().max(start);
+    let high = end.min(fragment.end_bytes());
     if low.cmp(high).is_lt() {
         Some((low, high))
     } else {

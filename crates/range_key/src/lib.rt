@@ -13,3 +13,6 @@ mod taken;
 pub use fragment::Fragment;
 pub use list::FragmentList;
 pub use stack::Stack;
+
+#[cfg(test)]
+mod tests;

@@ -78,7 +78,7 @@ pub(crate) fn ending_below(fragments: &[Fragment], key: &[u8]) -> usize
     ensures before { EndBelow key.now (take result fragments.now) }
     ensures from { EndsFrom key.now (drop result fragments.now) }
 {
-    fragments.partition_point(|fragment| fragment.end_bytes().cmp(key).is_lt())
+    fragments.partition_point(|f| f.end_bytes().cmp(key).is_lt())
 }
 
 /// How many fragments end at the key or below it.
@@ -88,7 +88,7 @@ pub(crate) fn ending_by(fragments: &[Fragment], key: &[u8]) -> usize
     ensures before { EndBy key.now (take result fragments.now) }
     ensures from { EndsAbove key.now (drop result fragments.now) }
 {
-    fragments.partition_point(|fragment| fragment.end_bytes().cmp(key).is_le())
+    fragments.partition_point(|f| f.end_bytes().cmp(key).is_le())
 }
 
 /// How many fragments start below the key.
@@ -98,7 +98,7 @@ pub(crate) fn starting_below(fragments: &[Fragment], key: &[u8]) -> usize
     ensures before { StartBelow key.now (take result fragments.now) }
     ensures from { StartsFrom key.now (drop result fragments.now) }
 {
-    fragments.partition_point(|fragment| fragment.start_bytes().cmp(key).is_lt())
+    fragments.partition_point(|f| f.start_bytes().cmp(key).is_lt())
 }
 
 /// How many fragments start at the key or below it.
@@ -108,7 +108,7 @@ pub(crate) fn starting_by(fragments: &[Fragment], key: &[u8]) -> usize
     ensures before { StartBy key.now (take result fragments.now) }
     ensures from { StartsAbove key.now (drop result fragments.now) }
 {
-    fragments.partition_point(|fragment| fragment.start_bytes().cmp(key).is_le())
+    fragments.partition_point(|f| f.start_bytes().cmp(key).is_le())
 }
 
 /// The places of the fragments that overlap the span or abut it: from the first up to, and without, the second.
