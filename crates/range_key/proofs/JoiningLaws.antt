@@ -7,7 +7,7 @@ use Rattle.mvcc_key.specs.Pieces.{piece}
 use Rattle.mvcc_key.proofs.StackLaws.{same_stack_is, both_true}
 use Rattle.range_key.specs.Joining.{is_one_with_last, with_last_end, joined_with, joined_on}
 
--- of a list whose last is known
+-- by a known last, a piece is one with the last
 pub is_one_with_last-at : (fs : List Fragment) (n : ℕ) (l : Fragment) (start : Key) (stack : List Timestamp) → n + 1 ≡ length fs → l ≡ get_or fs n l
     → (is_same_key l.end start && is_same_stack l.stack stack) ≡ is_one_with_last fs start stack
 is_one_with_last-at [] n l start stack h at = absurd (omega arith)
@@ -88,14 +88,14 @@ pub joined_on-append : (out ps qs : List Fragment) → joined_on out (ps ++ qs) 
 joined_on-append out [] qs = refl
 joined_on-append out (p ∷ ps) qs = joined_on-append (joined_with out p) ps qs
 
--- pieces that come in three parts
+-- pieces joined in three parts
 pub joined_on-three : (a b c : List Fragment) → joined_on (joined_on (joined_on [] a) b) c ≡ joined (a ++ (b ++ c))
 joined_on-three a b c =
     sym (joined_on-append (joined_on [] a) b c)
     ∙ sym (joined_on-append [] a (b ++ c))
     ∙ joined_on-all (a ++ (b ++ c))
 
--- so are pieces that came one part after the other
+-- a list to which three parts came, one after the other
 pub three-parts : (none below middle from : List Fragment) (a b c : List Fragment) → none ≡ [] → below ≡ joined_on none a → middle ≡ joined_on below b → from ≡ joined_on middle c
     → from ≡ joined (a ++ (b ++ c))
 three-parts none below middle from a b c e f g h =

@@ -1,6 +1,6 @@
 -- Lists of fragments cut to a span, part by part.
 use Rattle.std.specs.Prelude.{◌≡◌, ℕ, ◌+◌, ◌<◌, List, [], ◌∷◌, ◌++◌, length, take, drop}
-use Rattle.std.proofs.Common.{refl, sym, ◌∙◌, ap, subst, append-nil, arith, suc, zero, get_or}
+use Rattle.std.proofs.Common.{sym, ◌∙◌, ap, subst, append-nil, arith, suc, zero, get_or}
 use Rattle.std.proofs.lemmas.List.{take_more, take-append-drop}
 use Rattle.std.proofs.lemmas.Grind.{flat_map-append}
 use Rattle.mvcc_key.specs.Order.{Key}

@@ -2,12 +2,12 @@
 use Rattle.std.specs.Prelude.{◌≡◌, ℕ, ◌<◌, ◌≤◌, Bool, true, false, List, [], ◌∷◌, length, take, drop}
 use Rattle.std.specs.List.{AllByRecursion, AllWithin}
 use Rattle.std.specs.List.Sorted.{IsPartitionedBy, IsPartitionPoint}
-use Rattle.std.proofs.Common.{refl, arith, suc, zero, get_or}
+use Rattle.std.proofs.Common.{arith, suc, zero, get_or}
 use Rattle.mvcc_key.specs.Order.{Key, is_below, is_at_or_below}
 use Rattle.mvcc_key.specs.Fragments.{Fragment}
 use Rattle.mvcc_key.specs.Canonical.{IsFragment}
 use Rattle.mvcc_key.specs.Pieces.{ArePieces, StartsFrom, StartsAbove}
-use Rattle.mvcc_key.proofs.CanonicalLaws.{at_or_below, below_up}
+use Rattle.mvcc_key.proofs.CanonicalLaws.{at_or_below}
 use Rattle.mvcc_key.proofs.StackLaws.{le_trans, not_below_is}
 use Rattle.mvcc_key.proofs.SpanCutLaws.{low_up}
 use Rattle.range_key.specs.Places.{FirstFails}

@@ -27,8 +27,7 @@ PutsOver start end ts old new = (key : Key) → stack_at new key ≡ stack_with 
 abbrev pub TakesFrom : Key → Key → (Timestamp → Bool) → List Fragment → List Fragment → Type 0
 TakesFrom start end test old new = (key : Key) → stack_at new key ≡ stack_without start end test key (stack_at old key)
 
--- the tombstones after one operation more: one that sets adds its own, one that removes takes its span out of those at its
--- timestamp
+-- the tombstones after one operation more, which adds its own, or takes its span out of those at its timestamp
 abbrev pub with_operation : List RangeTombstone → RangeOp → List RangeTombstone
 with_operation tombstones op =
     if is_some op.set then with_tombstone (record { start = op.start; end = op.end; ts = time_of op.ts }) tombstones
@@ -37,3 +36,7 @@ with_operation tombstones op =
 -- the tombstones after the operations, each on what the one before it left
 abbrev pub tombstones_after : List RangeOp → List RangeTombstone
 tombstones_after = fold with_operation []
+
+-- whichever tombstones the old list shows, the new one shows them after the operation
+abbrev pub Applies : RangeOp → List Fragment → List Fragment → Type 0
+Applies op old new = (tombstones : List RangeTombstone) → old ≡ fragments tombstones → new ≡ fragments (with_operation tombstones op)

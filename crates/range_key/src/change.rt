@@ -45,7 +45,8 @@ fn lay_over(
     end: &[u8],
     ts: Timestamp,
 ) -> Result<(), OutOfMemory>
-    ensures { OnOk result (pieces.new ≡ joined_on pieces.old (laid_over start.now end.now (time_of ts) (cut_to start.now end.now fragments.now))) }
+    ensures { OnOk result (pieces.new
+        ≡ joined_on pieces.old (laid_over start.now end.now (time_of ts) (cut_to start.now end.now fragments.now))) }
 {
     let mut from = start;
     for fragment in fragments {
@@ -65,7 +66,8 @@ pub(crate) fn added(
     requires canonical { IsCanonical touched.now }
     requires from { EndsFrom start.now touched.now }
     requires by { StartBy end.now touched.now }
-    ensures { IfOk result (λ pieces. pieces.items ≡ joined (added_pieces (record { start = start.now; end = end.now; ts = time_of ts }) touched.now)) }
+    ensures { IfOk result (λ pieces. pieces.items
+        ≡ joined (added_pieces (record { start = start.now; end = end.now; ts = time_of ts }) touched.now)) }
 {
     let mut pieces = Pieces::new(alloc);
     pieces.push_below(touched, start)?;
@@ -82,7 +84,8 @@ fn thin_part(
     end: &[u8],
     taken: Taken,
 ) -> Result<(), OutOfMemory>
-    ensures { OnOk result (pieces.new ≡ joined_on pieces.old (thinned (is_taken taken) (part_within start.now end.now fragment.now))) }
+    ensures { OnOk result (pieces.new
+        ≡ joined_on pieces.old (thinned (is_taken taken) (part_within start.now end.now fragment.now))) }
 {
     let Some((low, high)) = bounds_within(fragment, start, end) else {
         return Ok(());
@@ -102,7 +105,8 @@ fn thin(
     end: &[u8],
     taken: Taken,
 ) -> Result<(), OutOfMemory>
-    ensures { OnOk result (pieces.new ≡ joined_on pieces.old (thinned (is_taken taken) (cut_to start.now end.now fragments.now))) }
+    ensures { OnOk result (pieces.new
+        ≡ joined_on pieces.old (thinned (is_taken taken) (cut_to start.now end.now fragments.now))) }
 {
     for fragment in fragments {
         thin_part(pieces, fragment, start, end, taken)?;
@@ -121,7 +125,8 @@ pub(crate) fn thinned(
     requires canonical { IsCanonical touched.now }
     requires from { EndsFrom start.now touched.now }
     requires by { StartBy end.now touched.now }
-    ensures { IfOk result (λ pieces. pieces.items ≡ joined (taken_pieces start.now end.now (is_taken taken) touched.now)) }
+    ensures { IfOk result (λ pieces. pieces.items
+        ≡ joined (taken_pieces start.now end.now (is_taken taken) touched.now)) }
 {
     let mut pieces = Pieces::new(alloc);
     pieces.push_below(touched, start)?;

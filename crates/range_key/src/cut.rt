@@ -1,9 +1,9 @@
 //! Fragments cut to a span.
 ghost use Rattle.std.specs.Prelude.{◌≡◌, [], ◌∷◌, IfOk, MatchOption};
-ghost use Rattle.mvcc_key.specs.Pieces.{piece};
 ghost use Rattle.std.specs.Option.{option_to_list};
 ghost use Rattle.mvcc_key.specs.Canonical.{IsCanonical};
 ghost use Rattle.mvcc_key.specs.Fragments.{cut_to, part_within};
+ghost use Rattle.mvcc_key.specs.Pieces.{piece};
 
 use crate::Fragment;
 use crate::place::{ending_by, starting_below};

@@ -4,6 +4,7 @@
 mod change;
 mod cut;
 mod fragment;
+mod lent;
 mod list;
 mod pieces;
 mod place;
@@ -11,6 +12,7 @@ mod stack;
 mod taken;
 
 pub use fragment::Fragment;
+pub use lent::FragmentsRef;
 pub use list::FragmentList;
 pub use stack::Stack;
 

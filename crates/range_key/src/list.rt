@@ -1,27 +1,30 @@
 //! Lists of fragments.
-ghost use Rattle.std.specs.Prelude.{◌≡◌, ◌+◌, ◌≤◌, [], length, slice_get, find, IsTrue, ◌↔◌, IfOk, OnOk, OnErr, filter, take, drop, ◌++◌, List};
-ghost use Rattle.mvcc_key.specs.Seen.{time_of};
-ghost use Rattle.range_key.specs.Changes.{AddsTombstone, PutsOver, TakesFrom, TakesOut, tombstones_after, with_operation};
-ghost use Rattle.range_key.specs.Taken.{is_taken};
+ghost use Rattle.std.specs.Prelude.{◌≡◌, ◌+◌, ◌≤◌, [], length, slice_get, find, IsTrue, ◌↔◌, IfOk, OnOk, OnErr, filter, take, drop, ◌++◌};
 ghost use Rattle.std.specs.List.{AllPass};
-ghost use Rattle.mvcc_key.specs.History.{RangeTombstone};
-ghost use Rattle.mvcc_key.specs.Fragments.{cut_to, fragments};
 ghost use Rattle.std.specs.Option.{option_copied};
 ghost use Rattle.mvcc_key.specs.Canonical.{IsCanonical, is_apart};
+ghost use Rattle.mvcc_key.specs.Fragments.{cut_to, fragments};
 ghost use Rattle.mvcc_key.specs.Looks.{bits};
 ghost use Rattle.mvcc_key.specs.Order.{is_below, is_in_window, is_within};
+ghost use Rattle.mvcc_key.specs.Seen.{time_of};
+ghost use Rattle.range_key.specs.Changes.{AddsTombstone, Applies, PutsOver, TakesFrom, TakesOut, tombstones_after};
+ghost use Rattle.range_key.specs.Taken.{is_taken};
 
-use crate::Fragment;
 use crate::change::{added, thinned};
 use crate::cut::cut;
 use crate::place::{fragment_at, touched};
 use crate::taken::Taken;
+use crate::{Fragment, FragmentsRef};
 use mvcc_key::{OutOfMemory, RangeOp, Steps, Timestamp};
 use std::alloc::Global;
 use std::marker::Model;
 use std::sync::ledger::Ledger;
 
-/// The fragments of some range tombstones, ascending by key.
+/// The fragments of some range tombstones, ascending by key: maximal spans, each under one stack of timestamps, so that of two
+/// that abut the stacks differ. Each list is the only one with its stacks.
+///
+/// A tombstone over [a, e) at 5 is one fragment, `a-e [5]`. One over [b, d) at 6 splits it: `a-b [5]`, `b-d [6, 5]`,
+/// `d-e [5]`. One over [e, g) at 5 joins the last, `d-g [5]`, and `remove` of [b, d) above 5 and up to 6 joins all: `a-g [5]`.
 #[derive(Debug, Drop)]
 pub struct FragmentList {
     held: Vec<Fragment>,
@@ -63,19 +66,6 @@ impl FragmentList {
         Ok(list)
     }
 
-    /// Carries out one operation.
-    fn apply(&mut self, op: &RangeOp) -> Result<(), OutOfMemory>
-        requires { IsTrue (is_below op.now.start op.now.end) }
-        ensures ok { OnOk result ((tombstones : List RangeTombstone) → self.old ≡ fragments tombstones → self.new ≡ fragments (with_operation tombstones op.now)) }
-        ensures err { OnErr result (self.new ≡ self.old) }
-    {
-        let (start, end) = (op.start.bytes(), op.end.bytes());
-        match op.set {
-            Some(_) => self.add(start, end, op.ts),
-            None => self.take_out(start, end, Taken::One(op.ts)),
-        }
-    }
-
     /// How many fragments there are.
     pub fn len(&self) -> usize
         ensures value { result ≡ length self.now }
@@ -99,7 +89,7 @@ impl FragmentList {
     }
 
     /// The fragments.
-    pub(crate) fn as_slice(&self) -> &[Fragment]
+    pub fn as_slice(&self) -> &[Fragment]
         ensures value { result.now ≡ self.now }
         ensures canonical { IsCanonical self.now }
     {
@@ -111,8 +101,14 @@ impl FragmentList {
         ensures value { IfOk result (λ l. l ≡ cut_to start.now end.now self.now) }
         ensures canonical { IfOk result IsCanonical }
     {
-        let held = cut(self.alloc(), self.as_slice(), start, end)?;
-        Ok(FragmentList { held })
+        FragmentList::cut_of(self.alloc(), self.as_slice(), start, end)
+    }
+
+    /// The same fragments, lent. This takes no memory.
+    pub fn lend(&self) -> FragmentsRef<'_>
+        ensures { result ≡ self.now }
+    {
+        FragmentsRef::of(self.alloc(), self.as_slice())
     }
 
     /// Lays a tombstone over the span: its timestamp is over each key there, once. Only the fragments that overlap the span or
@@ -121,7 +117,8 @@ impl FragmentList {
         requires { IsTrue (is_below start.now end.now) }
         ensures ok { OnOk result (AddsTombstone start.now end.now (time_of ts) self.old self.new) }
         ensures stacks { OnOk result (PutsOver start.now end.now (time_of ts) self.old self.new) }
-        ensures apart { filter (is_apart start.now end.now) self.new ≡ filter (is_apart start.now end.now) self.old }
+        ensures apart { filter (is_apart start.now end.now) self.new
+            ≡ filter (is_apart start.now end.now) self.old }
         ensures canonical { IsCanonical self.new }
         ensures err { OnErr result (self.new ≡ self.old) }
     {
@@ -142,13 +139,38 @@ impl FragmentList {
         to: Timestamp,
     ) -> Result<(), OutOfMemory>
         requires { IsTrue (is_below start.now end.now) }
-        ensures ok { OnOk result (TakesOut start.now end.now (is_in_window (time_of from) (time_of to)) self.old self.new) }
-        ensures stacks { OnOk result (TakesFrom start.now end.now (is_in_window (time_of from) (time_of to)) self.old self.new) }
-        ensures apart { filter (is_apart start.now end.now) self.new ≡ filter (is_apart start.now end.now) self.old }
+        ensures ok { OnOk result
+            (TakesOut start.now end.now (is_in_window (time_of from) (time_of to)) self.old self.new) }
+        ensures stacks { OnOk result
+            (TakesFrom start.now end.now (is_in_window (time_of from) (time_of to)) self.old self.new) }
+        ensures apart { filter (is_apart start.now end.now) self.new
+            ≡ filter (is_apart start.now end.now) self.old }
         ensures canonical { IsCanonical self.new }
         ensures err { OnErr result (self.new ≡ self.old) }
     {
         self.take_out(start, end, Taken::Window(from, to))
+    }
+
+    /// The fragment that contains the key, where there is one. It is found by halving: each fragment compared is a look.
+    pub fn at<L: Ledger>(&self, key: &[u8], steps: &mut Steps<L>) -> Option<&Fragment>
+        ensures found { option_copied result ≡ find (λ f. is_within f.start f.end key.now) self.now }
+        ensures later { steps.old ≤ steps.new }
+        ensures looks { steps.new ≤ steps.old + bits (length self.now) + 1 }
+    {
+        fragment_at(self.as_slice(), key, steps)
+    }
+
+    /// Carries out one operation.
+    fn apply(&mut self, op: &RangeOp) -> Result<(), OutOfMemory>
+        requires { IsTrue (is_below op.now.start op.now.end) }
+        ensures ok { OnOk result (Applies op.now self.old self.new) }
+        ensures err { OnErr result (self.new ≡ self.old) }
+    {
+        let (start, end) = (op.start.bytes(), op.end.bytes());
+        match op.set {
+            Some(_) => self.add(start, end, op.ts),
+            None => self.take_out(start, end, Taken::One(op.ts)),
+        }
     }
 
     /// Takes timestamps out of the span.
@@ -156,7 +178,8 @@ impl FragmentList {
         requires { IsTrue (is_below start.now end.now) }
         ensures ok { OnOk result (TakesOut start.now end.now (is_taken taken) self.old self.new) }
         ensures stacks { OnOk result (TakesFrom start.now end.now (is_taken taken) self.old self.new) }
-        ensures apart { filter (is_apart start.now end.now) self.new ≡ filter (is_apart start.now end.now) self.old }
+        ensures apart { filter (is_apart start.now end.now) self.new
+            ≡ filter (is_apart start.now end.now) self.old }
         ensures canonical { IsCanonical self.new }
         ensures err { OnErr result (self.new ≡ self.old) }
     {
@@ -184,12 +207,18 @@ impl FragmentList {
         *self.held.allocator()
     }
 
-    /// The fragment that contains the key, where there is one. It is found by halving: each fragment compared is a look.
-    pub fn at<L: Ledger>(&self, key: &[u8], steps: &mut Steps<L>) -> Option<&Fragment>
-        ensures found { option_copied result ≡ find (λ f. is_within f.start f.end key.now) self.now }
-        ensures later { steps.old ≤ steps.new }
-        ensures looks { steps.new ≤ steps.old + bits (length self.now) + 1 }
+    /// Fragments in order, cut to the span.
+    pub(crate) fn cut_of(
+        alloc: Global,
+        fragments: &[Fragment],
+        start: &[u8],
+        end: &[u8],
+    ) -> Result<FragmentList, OutOfMemory>
+        requires { IsCanonical fragments.now }
+        ensures value { IfOk result (λ l. l ≡ cut_to start.now end.now fragments.now) }
+        ensures canonical { IfOk result IsCanonical }
     {
-        fragment_at(self.as_slice(), key, steps)
+        let held = cut(alloc, fragments, start, end)?;
+        Ok(FragmentList { held })
     }
 }

@@ -85,7 +85,8 @@ impl Pieces {
         start: &[u8],
         end: &[u8],
     ) -> Result<(), OutOfMemory>
-        ensures { OnOk result (self.new ≡ joined_on self.old (part_within start.now end.now fragment.now)) }
+        ensures { OnOk result (self.new
+            ≡ joined_on self.old (part_within start.now end.now fragment.now)) }
     {
         if let Some((low, high)) = bounds_within(fragment, start, end) {
             self.push(low, high, fragment.copy_stack(self.alloc())?)?;

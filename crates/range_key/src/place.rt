@@ -72,7 +72,7 @@ pub(crate) fn fragment_at<'a, L: Ledger>(
 }
 
 /// How many fragments end below the key.
-pub(crate) fn ending_below(fragments: &[Fragment], key: &[u8]) -> usize
+fn ending_below(fragments: &[Fragment], key: &[u8]) -> usize
     requires { IsCanonical fragments.now }
     ensures within { result ≤ length fragments.now }
     ensures before { EndBelow key.now (take result fragments.now) }
@@ -102,7 +102,7 @@ pub(crate) fn starting_below(fragments: &[Fragment], key: &[u8]) -> usize
 }
 
 /// How many fragments start at the key or below it.
-pub(crate) fn starting_by(fragments: &[Fragment], key: &[u8]) -> usize
+fn starting_by(fragments: &[Fragment], key: &[u8]) -> usize
     requires { IsCanonical fragments.now }
     ensures within { result ≤ length fragments.now }
     ensures before { StartBy key.now (take result fragments.now) }

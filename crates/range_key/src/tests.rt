@@ -277,3 +277,30 @@ fn a_key_has_its_fragment(rt: HostRuntime) -> Result<(), Fail> {
     }
     Ok(())
 }
+
+fn is_shared<T: Sync>(_: &T) -> bool {
+    true
+}
+
+fn is_lent_at<L: Ledger>(list: &FragmentsRef<'_>, key: &[u8], shown: Shown, blank: Blank) -> bool
+    requires name { blank.name ≡ L.name }
+    requires parts { blank.parts ≡ L.parts }
+    requires some { 0 < blank.parts }
+{
+    let mut steps = Steps::<L>::new(blank);
+    is_shown(list.at(key, &mut steps), shown)
+}
+
+#[test]
+fn a_list_is_lent(rt: HostRuntime) -> Result<(), Fail> {
+    let list = changed(rt.alloc(), &OVER)?;
+    let second: Shown = (b"b", b"d", &[6, 5]);
+    let lent = list.lend();
+    assert_eq!(rt; lent.len(), 3);
+    assert!(rt; !lent.is_empty());
+    assert!(rt; is_shown(lent.get(1), second));
+    assert!(rt; is_lent_at::<Brand>(&lent, b"c", second, Blank::new(1)));
+    assert!(rt; shows(&lent.truncate(b"b", b"d")?, &[second]));
+    assert!(rt; is_shared(&list) && is_shared(&lent));
+    Ok(())
+}

@@ -1,4 +1,4 @@
-use Rattle.std.proofs.Common.{◌∙◌, sym, ap, subst, map, ◌++◌, ◌≡◌}
+use Rattle.std.proofs.Common.{◌∙◌, sym, ap, subst, map, ◌++◌}
 use Rattle.std.specs.List.{insert}
 use Rattle.std.specs.List.Sorted.{IsStrictlySortedBy}
 use Rattle.mvcc_key.specs.Lists.{put_in_order}
