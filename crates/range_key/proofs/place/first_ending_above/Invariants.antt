@@ -1,0 +1,18 @@
+use Rattle.std.proofs.Common.{◌-◌, ◌+◌, ◌≤◌, length, take, drop}
+use Rattle.mvcc_key.specs.Looks.{bits}
+use Rattle.mvcc_key.specs.Pieces.{EndBy}
+use Rattle.range_key.specs.Places.{EndsAbove}
+use Rattle.range_key.proofs.place.first_ending_above.Given as goal
+
+abbrev pub invariant-loop-low : goal.invariant-loop-low
+invariant-loop-low g l = record {
+  ordered : l.low ≤ l.high;
+  within : l.high ≤ length l.fragments;
+  before : EndBy l.key (take l.low l.fragments);
+  from : EndsAbove l.key (drop l.high l.fragments);
+  later : l.initial.steps ≤ l.steps;
+  cost : l.steps + bits (l.high - l.low) ≤ l.initial.steps + bits (length l.fragments);
+}
+
+abbrev pub decreases-loop-low : goal.decreases-loop-low
+decreases-loop-low g l = l.high - l.low

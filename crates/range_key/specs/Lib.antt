@@ -1,0 +1,4 @@
+pub mod Places
+pub mod Joining
+pub mod Taken
+pub mod Changes

@@ -1,0 +1,224 @@
+//! Lists of fragments.
+ghost use Rattle.std.specs.Prelude.{◌≡◌, ◌+◌, ◌≤◌, [], length, slice_get, find, IsTrue, ◌↔◌, IfOk, OnOk, OnErr, filter, take, drop, ◌++◌};
+ghost use Rattle.std.specs.List.{AllPass};
+ghost use Rattle.std.specs.Option.{option_copied};
+ghost use Rattle.mvcc_key.specs.Canonical.{IsCanonical, is_apart};
+ghost use Rattle.mvcc_key.specs.Fragments.{cut_to, fragments};
+ghost use Rattle.mvcc_key.specs.Looks.{bits};
+ghost use Rattle.mvcc_key.specs.Order.{is_below, is_in_window, is_within};
+ghost use Rattle.mvcc_key.specs.Seen.{time_of};
+ghost use Rattle.range_key.specs.Changes.{AddsTombstone, Applies, PutsOver, TakesFrom, TakesOut, tombstones_after};
+ghost use Rattle.range_key.specs.Taken.{is_taken};
+
+use crate::change::{added, thinned};
+use crate::cut::cut;
+use crate::place::{fragment_at, touched};
+use crate::taken::Taken;
+use crate::{Fragment, FragmentsRef};
+use mvcc_key::{OutOfMemory, RangeOp, Steps, Timestamp};
+use std::alloc::Global;
+use std::marker::Model;
+use std::sync::ledger::Ledger;
+
+/// The fragments of some range tombstones, ascending by key: maximal spans, each under one stack of timestamps, so that of two
+/// that abut the stacks differ. Each list is the only one with its stacks.
+///
+/// A tombstone over [a, e) at 5 is one fragment, `a-e [5]`. One over [b, d) at 6 splits it: `a-b [5]`, `b-d [6, 5]`,
+/// `d-e [5]`. One over [e, g) at 5 joins the last, `d-g [5]`, and `remove` of [b, d) above 5 and up to 6 joins all: `a-g [5]`.
+#[derive(Debug, Drop)]
+pub struct FragmentList {
+    held: Vec<Fragment>,
+}
+
+impl Model for FragmentList {
+    ghost use Rattle.std.specs.Prelude.{List};
+    ghost use Rattle.mvcc_key.specs.Canonical.{IsCanonical};
+    ghost use Rattle.mvcc_key.specs.Fragments.{Fragment};
+
+    ghost Value = { List Fragment };
+
+    ghost view = { λ l. l.held.items };
+
+    ghost invariant = { λ l. IsCanonical l.held.items };
+}
+
+impl FragmentList {
+    /// No fragments. This takes no memory.
+    pub fn new(alloc: Global) -> FragmentList
+        ensures { result ≡ [] }
+    {
+        FragmentList {
+            held: Vec::new(alloc),
+        }
+    }
+
+    /// The fragments after these operations, each on what the one before it left: one that sets lays its tombstone over its
+    /// span, and one that removes takes its very timestamp out of it.
+    pub fn of_ops(alloc: Global, ops: &[RangeOp]) -> Result<FragmentList, OutOfMemory>
+        requires { AllPass (λ op. is_below op.start op.end) ops.now }
+        ensures value { IfOk result (λ l. l ≡ fragments (tombstones_after ops.now)) }
+        ensures canonical { IfOk result IsCanonical }
+    {
+        let mut list = FragmentList::new(alloc);
+        for op in ops {
+            list.apply(op)?;
+        }
+        Ok(list)
+    }
+
+    /// How many fragments there are.
+    pub fn len(&self) -> usize
+        ensures value { result ≡ length self.now }
+        ensures canonical { IsCanonical self.now }
+    {
+        self.held.len()
+    }
+
+    /// Whether there are none.
+    pub fn is_empty(&self) -> bool
+        ensures { IsTrue result ↔ (self.now ≡ []) }
+    {
+        self.held.is_empty()
+    }
+
+    /// The fragment at this place, counted from 0 in the order of keys.
+    pub fn get(&self, index: usize) -> Option<&Fragment>
+        ensures { option_copied result ≡ slice_get self.now index }
+    {
+        self.held.get(index)
+    }
+
+    /// The fragments.
+    pub fn as_slice(&self) -> &[Fragment]
+        ensures value { result.now ≡ self.now }
+        ensures canonical { IsCanonical self.now }
+    {
+        self.held.as_slice()
+    }
+
+    /// The fragments cut to the span.
+    pub fn truncate(&self, start: &[u8], end: &[u8]) -> Result<FragmentList, OutOfMemory>
+        ensures value { IfOk result (λ l. l ≡ cut_to start.now end.now self.now) }
+        ensures canonical { IfOk result IsCanonical }
+    {
+        FragmentList::cut_of(self.alloc(), self.as_slice(), start, end)
+    }
+
+    /// The same fragments, lent. This takes no memory.
+    pub fn lend(&self) -> FragmentsRef<'_>
+        ensures { result ≡ self.now }
+    {
+        FragmentsRef::of(self.alloc(), self.as_slice())
+    }
+
+    /// Lays a tombstone over the span: its timestamp is over each key there, once. Only the fragments that overlap the span or
+    /// abut it are looked at, and the fragments behind them are moved once. The memory is taken before the first change.
+    pub fn add(&mut self, start: &[u8], end: &[u8], ts: Timestamp) -> Result<(), OutOfMemory>
+        requires { IsTrue (is_below start.now end.now) }
+        ensures ok { OnOk result (AddsTombstone start.now end.now (time_of ts) self.old self.new) }
+        ensures stacks { OnOk result (PutsOver start.now end.now (time_of ts) self.old self.new) }
+        ensures apart { filter (is_apart start.now end.now) self.new
+            ≡ filter (is_apart start.now end.now) self.old }
+        ensures canonical { IsCanonical self.new }
+        ensures err { OnErr result (self.new ≡ self.old) }
+    {
+        let fragments = self.as_slice();
+        let (low, high) = touched(fragments, start, end);
+        let pieces = added(self.alloc(), &fragments[low..high], start, end, ts)?;
+        self.replace(low, high, pieces)?;
+        Ok(())
+    }
+
+    /// Takes the timestamps above `from` and at or below `to` out of the span. Only the fragments that overlap the span or abut
+    /// it are looked at, and the fragments behind them are moved once. The memory is taken before the first change.
+    pub fn remove(
+        &mut self,
+        start: &[u8],
+        end: &[u8],
+        from: Timestamp,
+        to: Timestamp,
+    ) -> Result<(), OutOfMemory>
+        requires { IsTrue (is_below start.now end.now) }
+        ensures ok { OnOk result
+            (TakesOut start.now end.now (is_in_window (time_of from) (time_of to)) self.old self.new) }
+        ensures stacks { OnOk result
+            (TakesFrom start.now end.now (is_in_window (time_of from) (time_of to)) self.old self.new) }
+        ensures apart { filter (is_apart start.now end.now) self.new
+            ≡ filter (is_apart start.now end.now) self.old }
+        ensures canonical { IsCanonical self.new }
+        ensures err { OnErr result (self.new ≡ self.old) }
+    {
+        self.take_out(start, end, Taken::Window(from, to))
+    }
+
+    /// The fragment that contains the key, where there is one. It is found by halving: each fragment compared is a look.
+    pub fn at<L: Ledger>(&self, key: &[u8], steps: &mut Steps<L>) -> Option<&Fragment>
+        ensures found { option_copied result ≡ find (λ f. is_within f.start f.end key.now) self.now }
+        ensures later { steps.old ≤ steps.new }
+        ensures looks { steps.new ≤ steps.old + bits (length self.now) + 1 }
+    {
+        fragment_at(self.as_slice(), key, steps)
+    }
+
+    /// Carries out one operation.
+    fn apply(&mut self, op: &RangeOp) -> Result<(), OutOfMemory>
+        requires { IsTrue (is_below op.now.start op.now.end) }
+        ensures ok { OnOk result (Applies op.now self.old self.new) }
+        ensures err { OnErr result (self.new ≡ self.old) }
+    {
+        let (start, end) = (op.start.bytes(), op.end.bytes());
+        match op.set {
+            Some(_) => self.add(start, end, op.ts),
+            None => self.take_out(start, end, Taken::One(op.ts)),
+        }
+    }
+
+    /// Takes timestamps out of the span.
+    fn take_out(&mut self, start: &[u8], end: &[u8], taken: Taken) -> Result<(), OutOfMemory>
+        requires { IsTrue (is_below start.now end.now) }
+        ensures ok { OnOk result (TakesOut start.now end.now (is_taken taken) self.old self.new) }
+        ensures stacks { OnOk result (TakesFrom start.now end.now (is_taken taken) self.old self.new) }
+        ensures apart { filter (is_apart start.now end.now) self.new
+            ≡ filter (is_apart start.now end.now) self.old }
+        ensures canonical { IsCanonical self.new }
+        ensures err { OnErr result (self.new ≡ self.old) }
+    {
+        let fragments = self.as_slice();
+        let (low, high) = touched(fragments, start, end);
+        let pieces = thinned(self.alloc(), &fragments[low..high], start, end, taken)?;
+        self.replace(low, high, pieces)?;
+        Ok(())
+    }
+
+    /// Puts the pieces in the place of the fragments from the first place up to, and without, the second.
+    fn replace(&mut self, low: usize, high: usize, pieces: Vec<Fragment>) -> Result<(), OutOfMemory>
+        requires ordered { low ≤ high }
+        requires within { high ≤ length self.old }
+        requires canonical { IsCanonical (take low self.old ++ (pieces.items ++ drop high self.old)) }
+        ensures ok { OnOk result (self.new ≡ take low self.old ++ (pieces.items ++ drop high self.old)) }
+        ensures err { OnErr result (self.new ≡ self.old) }
+    {
+        self.held.splice(low..high, pieces)?;
+        Ok(())
+    }
+
+    /// The allocator.
+    fn alloc(&self) -> Global {
+        *self.held.allocator()
+    }
+
+    /// Fragments in order, cut to the span.
+    pub(crate) fn cut_of(
+        alloc: Global,
+        fragments: &[Fragment],
+        start: &[u8],
+        end: &[u8],
+    ) -> Result<FragmentList, OutOfMemory>
+        requires { IsCanonical fragments.now }
+        ensures value { IfOk result (λ l. l ≡ cut_to start.now end.now fragments.now) }
+        ensures canonical { IfOk result IsCanonical }
+    {
+        let held = cut(alloc, fragments, start, end)?;
+        Ok(FragmentList { held })
+    }
+}
