@@ -1,0 +1,226 @@
+ghost use Rattle.std.specs.Prelude.{◌≡◌, ◌<◌, IfOk};
+ghost use Rattle.mem_table.specs.Entries.{IsBatch};
+
+mod rising;
+
+use super::*;
+use mvcc_key::{
+    Batch, Bytes, Cursor, OutOfMemory, PointOp, Steps, Timestamp, decode_key, encode_key,
+};
+use rising::Rising;
+use std::alloc::Global;
+use std::marker::Brand;
+use std::sync::ledger::{Blank, Ledger};
+use std::test::Fail;
+
+/// A key, a wall time (0 for the key's record), and a value where it is set.
+type State = (&'static [u8], u64, Option<&'static [u8]>);
+
+fn key_of(alloc: Global, key: &[u8], wall: u64) -> Result<Vec<u8>, OutOfMemory> {
+    encode_key(
+        alloc,
+        key,
+        Timestamp::new(wall, 0).unwrap_or(Timestamp::NONE),
+    )
+}
+
+fn op_of(alloc: Global, state: State) -> Result<PointOp, OutOfMemory> {
+    let value = match state.2 {
+        Some(bytes) => Some(Bytes::copy(alloc, bytes)?),
+        None => None,
+    };
+    let key = Bytes::of(key_of(alloc, state.0, state.1)?);
+    Ok(PointOp { key, value })
+}
+
+/// The states, but for those that are out of order or cannot be stored.
+fn batch_of(alloc: Global, states: &[State]) -> Result<Batch, OutOfMemory>
+    ensures { IfOk result IsBatch }
+{
+    let mut rising = Rising::new(alloc);
+    for state in states {
+        let _ = rising.push(op_of(alloc, *state)?)?;
+    }
+    Ok(rising.into_batch())
+}
+
+fn table_of(alloc: Global, batches: &[&[State]]) -> Result<MemTable, OutOfMemory> {
+    let mut table = MemTable::new(alloc);
+    for states in batches {
+        table.apply(batch_of(alloc, states)?)?;
+    }
+    Ok(table)
+}
+
+fn is_at<C: Cursor>(alloc: Global, cursor: &C, state: Option<State>) -> Result<bool, OutOfMemory> {
+    match state {
+        Some((key, wall, value)) => {
+            let key = key_of(alloc, key, wall)?;
+            Ok(cursor.key() == Some(key.as_slice()) && cursor.value() == value)
+        }
+        None => Ok(cursor.key().is_none() && cursor.value().is_none()),
+    }
+}
+
+/// Whether a cursor comes to these states on its way to the end, and back.
+fn walks<L: Ledger>(
+    alloc: Global,
+    table: &MemTable,
+    states: &[State],
+    blank: Blank,
+) -> Result<bool, OutOfMemory>
+    requires name { blank.name ≡ L.name }
+    requires parts { blank.parts ≡ L.parts }
+    requires some { 0 < blank.parts }
+{
+    let mut steps = Steps::<L>::new(blank);
+    let mut cursor = table.cursor();
+    let mut walked = is_at(alloc, &cursor, None)?;
+    for state in states {
+        cursor.next(&mut steps);
+        walked = is_at(alloc, &cursor, Some(*state))? && walked;
+    }
+    cursor.next(&mut steps);
+    walked = is_at(alloc, &cursor, None)? && walked;
+    for state in states.iter().rev() {
+        cursor.prev(&mut steps);
+        walked = is_at(alloc, &cursor, Some(*state))? && walked;
+    }
+    cursor.prev(&mut steps);
+    Ok(is_at(alloc, &cursor, None)? && walked)
+}
+
+const ROW: [State; 3] = [
+    (b"a", 1_000_000_000, Some(b"abc")),
+    (b"a\x00", 1_000_000_000, Some(b"abc")),
+    (b"a\x00\x01", 1_000_000_000, Some(b"abc")),
+];
+
+/// Batches, oldest first, and the states of their table.
+type Case = (&'static [&'static [State]], &'static [State]);
+
+const CASES: [Case; 9] = [
+    (&[], &[]),
+    (&[&ROW, &[]], &ROW),
+    (
+        &[&[(b"b", 1, Some(b"x"))], &[(b"a", 1, Some(b"y"))]],
+        &[(b"a", 1, Some(b"y")), (b"b", 1, Some(b"x"))],
+    ),
+    (
+        &[
+            &[(b"a", 1, Some(b"1")), (b"c", 1, Some(b"3"))],
+            &[(b"b", 1, Some(b"2")), (b"d", 1, Some(b"4"))],
+        ],
+        &[
+            (b"a", 1, Some(b"1")),
+            (b"b", 1, Some(b"2")),
+            (b"c", 1, Some(b"3")),
+            (b"d", 1, Some(b"4")),
+        ],
+    ),
+    (
+        &[&[(b"a", 1, Some(b"old"))], &[(b"a", 1, Some(b"new"))]],
+        &[(b"a", 1, Some(b"new"))],
+    ),
+    (
+        &[&[(b"a", 1, Some(b"old"))], &[(b"a", 1, None)]],
+        &[(b"a", 1, None)],
+    ),
+    (
+        &[&[(b"a", 1, None)], &[(b"a", 1, Some(b"new"))]],
+        &[(b"a", 1, Some(b"new"))],
+    ),
+    (
+        &[
+            &[(b"a", 1, Some(b"older"))],
+            &[(b"a", 2, Some(b"newer"))],
+            &[(b"a", 0, Some(b"record"))],
+        ],
+        &[
+            (b"a", 0, Some(b"record")),
+            (b"a", 2, Some(b"newer")),
+            (b"a", 1, Some(b"older")),
+        ],
+    ),
+    (
+        &[
+            &[
+                (b"b", 1, Some(b"1")),
+                (b"c", 1, Some(b"2")),
+                (b"d", 1, Some(b"3")),
+                (b"f", 1, Some(b"4")),
+            ],
+            &[
+                (b"a", 1, Some(b"5")),
+                (b"b", 1, Some(b"6")),
+                (b"d", 1, None),
+                (b"e", 1, Some(b"7")),
+                (b"g", 1, None),
+            ],
+        ],
+        &[
+            (b"a", 1, Some(b"5")),
+            (b"b", 1, Some(b"6")),
+            (b"c", 1, Some(b"2")),
+            (b"d", 1, None),
+            (b"e", 1, Some(b"7")),
+            (b"f", 1, Some(b"4")),
+            (b"g", 1, None),
+        ],
+    ),
+];
+
+#[test]
+fn batches_are_one_table(rt: HostRuntime) -> Result<(), Fail> {
+    for (batches, states) in CASES {
+        let table = table_of(rt.alloc(), batches)?;
+        assert_eq!(rt; table.point_ops().len(), states.len());
+        assert!(rt; table.range_ops().is_empty());
+        assert!(rt; walks::<Brand>(rt.alloc(), &table, states, Blank::new(1))?);
+    }
+    Ok(())
+}
+
+/// Whether a cursor comes to these states, the first at the key or behind it, and the second before it.
+fn finds<L: Ledger>(
+    alloc: Global,
+    table: &MemTable,
+    sought: (&[u8], u64),
+    from: Option<State>,
+    below: Option<State>,
+    blank: Blank,
+) -> Result<bool, OutOfMemory>
+    requires name { blank.name ≡ L.name }
+    requires parts { blank.parts ≡ L.parts }
+    requires some { 0 < blank.parts }
+{
+    let mut steps = Steps::<L>::new(blank);
+    let mut cursor = table.cursor();
+    let key = key_of(alloc, sought.0, sought.1)?;
+    if decode_key(key.as_slice()).is_err() {
+        return Ok(false);
+    }
+    cursor.seek_ge(key.as_slice(), &mut steps);
+    let found = is_at(alloc, &cursor, from)?;
+    cursor.seek_lt(key.as_slice(), &mut steps);
+    Ok(is_at(alloc, &cursor, below)? && found)
+}
+
+#[test]
+fn keys_are_found(rt: HostRuntime) -> Result<(), Fail> {
+    let table = table_of(rt.alloc(), &[&ROW])?;
+    let [a, b, c] = ROW;
+    let cases: [(&[u8], u64, Option<State>, Option<State>); 7] = [
+        (b"a", 1_000_000_000, Some(a), None),
+        (b"a\x00", 1_000_000_000, Some(b), Some(a)),
+        (b"a\x00\x01", 1_000_000_000, Some(c), Some(b)),
+        (b"a", 2_000_000_000, Some(a), None),
+        (b"a", 999_999_999, Some(b), Some(a)),
+        (b"a\x00\x00", 0, Some(c), Some(b)),
+        (b"b", 0, None, Some(c)),
+    ];
+    for (key, wall, from, below) in cases {
+        assert!(rt; finds::<Brand>(rt.alloc(), &table, (key, wall), from, below, Blank::new(1))?);
+    }
+    Ok(())
+}
