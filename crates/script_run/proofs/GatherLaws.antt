@@ -7,8 +7,7 @@ use Rattle.std.proofs.Common.{refl, sym, ap, ◌∙◌, subst, append_assoc, app
 use Rattle.std.proofs.Math.Seq.{take-append_seam}
 use Rattle.io_edge.specs.Writing.{AppendsBeginning}
 use Rattle.script_run.specs.Step.{State, first_state}
-use Rattle.script_run.specs.Text.{show}
-use Rattle.script_run.specs.Output.{Carried, carry_out, lines, output_from, script_output}
+use Rattle.script_run.specs.Output.{Carried, carry_out, text_of, lines, output_from, script_output}
 use Rattle.script_run.specs.Gathering.{Moves, Gathers, GathersBeginning}
 
 -- what is written, what is gathered and what is to come are all of the text
@@ -24,20 +23,20 @@ begun held gathered script state none first = record { written = []; appended = 
 
 -- the text of a line and of the lines behind it
 output_from-line : (state : State) (n : ℕ) (line : List ℕ) (rest : List (List ℕ))
-    → output_from state n (line ∷ rest) ≡ show (carry_out state n line).answer ++ output_from (carry_out state n line).state (n + 1) rest
+    → output_from state n (line ∷ rest) ≡ text_of (carry_out state n line) ++ output_from (carry_out state n line).state (n + 1) rest
 unfolding output_from
 output_from-line state n line rest = refl
 
 -- one line more
 pub one_more : (held held' held'' : Option (List ℕ)) (text text' text'' script rest behind line : List ℕ) (state state' : State) (n : ℕ)
     → IsUnderWay held held' text (output_from state n (lines rest)) (script_output script) → lines rest ≡ line ∷ lines behind → state' ≡ (carry_out state n line).state
-    → text' ≡ text ++ show (carry_out state n line).answer → Moves held' held'' text' text''
+    → text' ≡ text ++ text_of (carry_out state n line) → Moves held' held'' text' text''
     → IsUnderWay held held'' text'' (output_from state' (n + 1) (lines behind)) (script_output script)
 one_more held held' held'' text text' text'' script rest behind line state state' n so_far is after shown moved =
     let c : Carried = carry_out state n line in
     let later : List ℕ = output_from c.state (n + 1) (lines behind) in
-    let coming : output_from state n (lines rest) ≡ show c.answer ++ later = ap (output_from state n) is ∙ output_from-line state n line (lines behind) in
-    let all : (so_far.written ++ text) ++ (show c.answer ++ later) ≡ script_output script = ap (λ l. (so_far.written ++ text) ++ l) (sym coming) ∙ so_far.whole in
+    let coming : output_from state n (lines rest) ≡ text_of c ++ later = ap (output_from state n) is ∙ output_from-line state n line (lines behind) in
+    let all : (so_far.written ++ text) ++ (text_of c ++ later) ≡ script_output script = ap (λ l. (so_far.written ++ text) ++ l) (sym coming) ∙ so_far.whole in
     record {
       written = so_far.written ++ moved.part;
       appended = Appends-trans held held' held'' so_far.written moved.part so_far.appended moved.appended;
@@ -46,8 +45,8 @@ one_more held held' held'' text text' text'' script rest behind line state state
           ∙ ap (λ l. l ++ later) (append_assoc so_far.written moved.part text'')
           ∙ ap (λ l. (so_far.written ++ l) ++ later) (sym moved.whole)
           ∙ ap (λ l. (so_far.written ++ l) ++ later) shown
-          ∙ ap (λ l. l ++ later) (sym (append_assoc so_far.written text (show c.answer)))
-          ∙ append_assoc (so_far.written ++ text) (show c.answer) later
+          ∙ ap (λ l. l ++ later) (sym (append_assoc so_far.written text (text_of c)))
+          ∙ append_assoc (so_far.written ++ text) (text_of c) later
           ∙ all;
     }
 
@@ -120,6 +119,6 @@ written_beginning_part held held' held'' text all gathered failed =
 -- the text to come begins with that of the first line
 pub as_line : (held held' : Option (List ℕ)) (text script rest behind line : List ℕ) (state : State) (n : ℕ)
     → IsUnderWay held held' text (output_from state n (lines rest)) (script_output script) → lines rest ≡ line ∷ lines behind
-    → IsUnderWay held held' text (show (carry_out state n line).answer ++ output_from (carry_out state n line).state (n + 1) (lines behind)) (script_output script)
+    → IsUnderWay held held' text (text_of (carry_out state n line) ++ output_from (carry_out state n line).state (n + 1) (lines behind)) (script_output script)
 as_line held held' text script rest behind line state n so_far is =
     subst (λ l. IsUnderWay held held' text l (script_output script)) (ap (output_from state n) is ∙ output_from-line state n line (lines behind)) so_far

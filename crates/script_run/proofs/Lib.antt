@@ -3,7 +3,9 @@ pub mod VersionLaws
 pub mod Search
 pub mod RuleLaws
 pub mod NumberLaws
+pub mod CutLaws
 pub mod WordLaws
+pub mod EscapeLaws
 pub mod TextLaws
 pub mod StepLaws
 pub mod LineLaws

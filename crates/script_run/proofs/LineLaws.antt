@@ -3,8 +3,8 @@ use Rattle.std.specs.Prelude.{◌≡◌, ℕ, ◌+◌, ◌<◌, Bool, true, fals
 use Rattle.std.proofs.Common.{refl, sym, ap, ◌∙◌, arith}
 use Rattle.mvcc_key.specs.Cutting.{pieces}
 use Rattle.mvcc_key.proofs.CuttingLaws.{pieces_some}
-use Rattle.script_run.specs.Output.{lines, without_empty_end, up_to_newline, whole_part}
-use Rattle.script_run.proofs.WordLaws.{pieces-cut, pieces-uncut}
+use Rattle.script_run.specs.Output.{lines, without_empty_end, up_to_newline, whole_part, without_return}
+use Rattle.script_run.proofs.CutLaws.{pieces-cut, pieces-uncut}
 
 abbrev is_newline : ℕ → Bool
 is_newline b = b == 0x0a
@@ -43,3 +43,17 @@ pub whole_part-other : (xs : List ℕ) (b : ℕ) → (b == 0x0a) ≡ false → w
 unfolding whole_part
 whole_part-other [] b is = rw is refl
 whole_part-other (x ∷ xs) b is = ap (up_to_newline x) (whole_part-other xs b is)
+
+-- a carriage return at the end is dropped
+pub without_return-return : (xs : List ℕ) (b : ℕ) → (b == 0x0d) ≡ true → without_return (xs ++ b ∷ []) ≡ xs
+unfolding without_return
+without_return-return [] b is = rw is refl
+without_return-return (x ∷ []) b is = rw is refl
+without_return-return (x ∷ y ∷ xs) b is = ap (λ l. x ∷ l) (without_return-return (y ∷ xs) b is)
+
+-- any other byte at the end is kept
+pub without_return-other : (xs : List ℕ) (b : ℕ) → (b == 0x0d) ≡ false → without_return (xs ++ b ∷ []) ≡ xs ++ b ∷ []
+unfolding without_return
+without_return-other [] b is = rw is refl
+without_return-other (x ∷ []) b is = rw is refl
+without_return-other (x ∷ y ∷ xs) b is = ap (λ l. x ∷ l) (without_return-other (y ∷ xs) b is)

@@ -3,7 +3,7 @@ use Rattle.std.proofs.Common.{◌≡◌, ℕ, ◌+◌, ◌-◌, ◌*◌, ◌<◌
 use Rattle.std.proofs.lemmas.List.{take-append-drop}
 use Rattle.std.specs.Prelude.{nat_le, ◌&&◌, if◌then◌else◌}
 use Rattle.std.proofs.lemmas.Bool.Decides.{nat_tests}
-use Rattle.script_run.specs.Grammar.{digits_value, is_number, number_up_to}
+use Rattle.script_run.specs.Forms.{digits_value, is_number, number_up_to}
 
 abbrev step : ℕ → ℕ → ℕ
 step v d = 10 * v + (d - 48)
@@ -21,6 +21,7 @@ value-take-le xs i = subst (λ (l : List ℕ). digits_value (take i xs) ≤ digi
     (rw (fold-append 0 (take i xs) (drop i xs)) (grows (digits_value (take i xs)) (drop i xs)))
 
 pub none-above : (limit : ℕ) (digits : List ℕ) → limit < digits_value digits → None ≡ number_up_to limit digits
+unfolding number_up_to
 none-above limit digits big =
     let over : nat_le (digits_value digits) limit ≡ false = grind (arith, nat_tests) in
     by (is_number digits) (nat_le (digits_value digits) limit) over

@@ -6,8 +6,7 @@ use Rattle.script_run.proofs.LineLaws.{up_to-more}
 use Rattle.mvcc_key.specs.Cutting.{pieces}
 use Rattle.mvcc_key.proofs.CuttingLaws.{pieces_some, pieces-append}
 use Rattle.script_run.specs.Step.{State, first_state}
-use Rattle.script_run.specs.Text.{show}
-use Rattle.script_run.specs.Output.{Carried, carry_out, output_from, without_empty_end, lines, script_output, up_to_newline, whole_part}
+use Rattle.script_run.specs.Output.{Carried, carry_out, text_of, output_from, without_empty_end, lines, script_output, up_to_newline, whole_part}
 
 -- the text of lines begins that of these and more lines
 output_from-begins : (s : State) (n : ℕ) (ls more : List (List ℕ)) → (rest : List ℕ) × (output_from s n (ls ++ more) ≡ output_from s n ls ++ rest)
@@ -16,7 +15,7 @@ output_from-begins s n [] more = (output_from s n more, refl)
 output_from-begins s n (l ∷ ls) more =
     let c : Carried = carry_out s n l in
     let rest = output_from-begins c.state (n + 1) ls more in
-    (rest.0, ap (λ t. show c.answer ++ t) rest.1 ∙ sym (append_assoc (show c.answer) (output_from c.state (n + 1) ls) rest.0))
+    (rest.0, ap (λ t. text_of c ++ t) rest.1 ∙ sym (append_assoc (text_of c) (output_from c.state (n + 1) ls) rest.0))
 
 without_empty_end-append : (ps qs : List (List ℕ)) (q : List ℕ) (rest : List (List ℕ)) → qs ≡ q ∷ rest
     → without_empty_end (ps ++ qs) ≡ ps ++ without_empty_end qs

@@ -1,6 +1,9 @@
 -- Text that is appended piece by piece.
-use Rattle.std.specs.Prelude.{◌≡◌, ℕ, List, [], ◌++◌, Result, Ok, Err, OnOk, OnErr}
-use Rattle.std.proofs.Common.{sym, ap, ◌∙◌, append-nil, append_assoc}
+use Rattle.std.specs.Prelude.{◌≡◌, ℕ, true, List, [], ◌∷◌, ◌++◌, Result, Ok, Err, OnOk, OnErr}
+use Rattle.std.specs.List.{list_all}
+use Rattle.std.proofs.lemmas.Bool.{and_parts}
+use Rattle.script_run.specs.Text.{escaped, escaped_byte, is_unescaped}
+use Rattle.std.proofs.Common.{refl, sym, ap, ◌∙◌, append-nil, append_assoc}
 use Rattle.script_run.specs.Promise.{Extends}
 
 -- what stays the same is old with nothing behind it
@@ -20,3 +23,11 @@ two_pieces old mid new first second one two = two ∙ ap (λ l. l ++ second) one
 pub on_ok : {T E : Type 0} {P : Type 0} (r : Result T E) → P → OnOk r P
 on_ok (Ok x) p = p
 on_ok (Err e) p = tt
+
+-- what is printed as it is
+pub unescaped_text : (bytes : List ℕ) → list_all is_unescaped bytes ≡ true → escaped bytes ≡ bytes
+unfolding escaped_byte
+unescaped_text [] plain = refl
+unescaped_text (b ∷ bs) plain =
+    let both = and_parts (is_unescaped b) (list_all is_unescaped bs) plain in
+    rw both.0 (ap (λ l. b ∷ l) (unescaped_text bs both.1))

@@ -1,77 +1,71 @@
--- The first piece of bytes that are cut at a byte, and the pieces behind it.
-use Rattle.std.specs.Prelude.{◌≡◌, ℕ, ◌+◌, ◌<◌, ◌≤◌, Bool, true, false, not, List, [], ◌∷◌, length, take, drop, position, cond, nat_lt, Option, Some, None, is_some, ◌==◌}
-use Rattle.std.specs.Option.{option_map_or}
-use Rattle.std.specs.List.{position_or_len, prefix_len, AllByRecursion}
-use Rattle.std.proofs.Common.{zero, suc, refl, ap, arith, get_or, add-one, Bor}
-use Rattle.std.proofs.lemmas.Bool.Decides.{nat_tests}
+-- The words of a line: where they stand, and what is found among them.
+use Rattle.std.specs.Prelude.{◌≡◌, ℕ, ◌+◌, ◌<◌, ◌≤◌, Bool, true, false, not, List, [], ◌∷◌, length, take, drop, position, Some, None}
+use Rattle.std.specs.List.{AllByRecursion}
+use Rattle.std.proofs.Common.{zero, suc, refl, sym, subst, arith, get_or}
 use Rattle.std.proofs.lemmas.List.Quantifiers.{position-Some}
-use Rattle.mvcc_key.specs.Cutting.{onto_first, pieces}
-use Rattle.mvcc_key.proofs.CuttingLaws.{pieces_some}
-use Rattle.script_run.specs.Grammar.{words_of, get_words, put_words}
+use Rattle.mvcc_key.specs.Lists.{is_empty}
+use Rattle.script_run.specs.Words.{is_blank, words}
+use Rattle.script_run.proofs.CutLaws.{not_true, not_false, none-position, pieces-cut, pieces-uncut}
 
--- a front as long as the list is the list
-whole_front : {X : Type 0} (p : X → Bool) (xs : List X) → length xs ≤ prefix_len p xs → AllByRecursion (λ x. p x ≡ true) xs
-whole_front p [] long = tt
-whole_front p (x ∷ xs) long = by (whole_front p xs) (p x) refl long
-  where
-    by : (length xs ≤ prefix_len p xs → AllByRecursion (λ y. p y ≡ true) xs) → (b : Bool) → p x ≡ b → suc (length xs) ≤ cond b (1 + prefix_len p xs) 0
-        → AllByRecursion (λ y. p y ≡ true) (x ∷ xs)
-    by rest true is h = (is, rest (omega arith))
-    by rest false is h = absurd (omega arith)
+words_from : (xs : List ℕ) (i : ℕ) → i ≤ length xs → ((k : ℕ) → k < i → not (is_blank (get_or xs k 0)) ≡ false) → words xs ≡ words (drop i xs)
+unfolding words
+words_from xs zero low blank = refl
+words_from [] (suc i) low blank = absurd (omega arith)
+words_from (x ∷ xs) (suc i) low blank =
+    let first : is_blank x ≡ true = not_false (is_blank x) (blank 0 (omega arith)) in
+    rw first (words_from xs i (omega arith) (λ k less. blank (suc k) (omega arith)))
 
-none-position : {X : Type 0} (p : X → Bool) (xs : List X) → position p xs ≡ None → AllByRecursion (λ x. not (p x) ≡ true) xs
-none-position p xs none = by (nat_lt (position_or_len p xs) (length xs)) refl none
-  where
-    by : (b : Bool) → nat_lt (position_or_len p xs) (length xs) ≡ b → cond b (Some (position_or_len p xs)) None ≡ None → AllByRecursion (λ x. not (p x) ≡ true) xs
-    by true is h = cc
-    by false is h = let long : length xs ≤ prefix_len (λ x. not (p x)) xs = grind (arith, nat_tests) in whole_front (λ x. not (p x)) xs long
+-- blanks before a word count for nothing
+pub words-blanks : (xs : List ℕ) (i : ℕ) → position (λ b. not (is_blank b)) xs ≡ Some i → words xs ≡ words (drop i xs)
+words-blanks xs i some =
+    let at = position-Some (λ b. not (is_blank b)) xs i 0 some in
+    words_from xs i (omega (arith, at.0)) at.2
 
-module _ (test : ℕ → Bool) where
-  not_true : (b : Bool) → not b ≡ true → b ≡ false
-  not_true true h = cc
-  not_true false h = refl
+not_not : (b : Bool) → not (not b) ≡ true → b ≡ true
+not_not true h = refl
+not_not false h = cc
 
-  one_piece : (xs : List ℕ) → AllByRecursion (λ x. not (test x) ≡ true) xs → pieces test xs ≡ xs ∷ []
-  one_piece [] none = refl
-  one_piece (x ∷ xs) none = rw (not_true (test x) none.0) (ap (onto_first x) (one_piece xs none.1))
+all_blank : (ys : List ℕ) → AllByRecursion (λ b. not (not (is_blank b)) ≡ true) ys → words ys ≡ []
+unfolding words
+all_blank [] blank = refl
+all_blank (y ∷ ys) blank = rw (not_not (is_blank y) blank.0) (all_blank ys blank.1)
 
-  -- where no byte cuts there is one piece
-  pub pieces-uncut : (xs : List ℕ) → position test xs ≡ None → pieces test xs ≡ xs ∷ []
-  pieces-uncut xs none = one_piece xs (none-position test xs none)
+-- blanks alone have no word
+pub words-none : (xs : List ℕ) → position (λ b. not (is_blank b)) xs ≡ None → words xs ≡ []
+words-none xs none = all_blank xs (none-position (λ b. not (is_blank b)) xs none)
 
-  pieces-at : (xs : List ℕ) (i : ℕ) → i < length xs → test (get_or xs i 0) ≡ true → ((k : ℕ) → k < i → test (get_or xs k 0) ≡ false)
-      → pieces test xs ≡ take i xs ∷ pieces test (drop (suc i) xs)
-  pieces-at [] i within cuts before = absurd (omega arith)
-  pieces-at (x ∷ xs) zero within cuts before = rw cuts refl
-  pieces-at (x ∷ xs) (suc i) within cuts before =
-      rw (before 0 (omega arith)) (ap (onto_first x) (pieces-at xs i (omega arith) cuts (λ k low. before (suc k) (omega arith))))
+-- what begins at a word has a first byte, and that is no blank
+unfoldable pub BeginsWord : List ℕ → Type 0
+BeginsWord xs = (x : ℕ) × (ys : List ℕ) × (xs ≡ x ∷ ys) × (is_blank x ≡ false)
 
-  -- where a byte cuts, the pieces are what is before it and the pieces of what is behind it
-  pub pieces-cut : (xs : List ℕ) (i : ℕ) → position test xs ≡ Some i → pieces test xs ≡ take i xs ∷ pieces test (drop (i + 1) xs)
-  pieces-cut xs i some =
-      let at = position-Some test xs i 0 some in
-      rw (add-one) (pieces-at xs i at.0 at.1 at.2)
+drop-at : (xs : List ℕ) (i : ℕ) → i < length xs → (ys : List ℕ) × (drop i xs ≡ get_or xs i 0 ∷ ys)
+drop-at [] i within = absurd (omega arith)
+drop-at (x ∷ xs) zero within = (xs, refl)
+drop-at (x ∷ xs) (suc i) within = drop-at xs i (omega arith)
 
--- behind a space there are words
-pub words_of-some : (more : Option (Bor (List ℕ))) → is_some more ≡ true → (w : List ℕ) × (ws : List (List ℕ)) × (option_map_or (λ rest. words_of rest.now) more [] ≡ w ∷ ws)
-unfolding words_of
-words_of-some None some = cc
-words_of-some (Some rest) some = pieces_some (λ b. b == 0x20) rest.now
+pub begins-word : (xs : List ℕ) (i : ℕ) → position (λ b. not (is_blank b)) xs ≡ Some i → BeginsWord (drop i xs)
+unfolding BeginsWord
+begins-word xs i some =
+    let at = position-Some (λ b. not (is_blank b)) xs i 0 some in
+    let rest = drop-at xs i at.0 in
+    (get_or xs i 0, rest.0, rest.1, not_true (is_blank (get_or xs i 0)) at.1)
 
-abbrev words_behind : Option (Bor (List ℕ)) → List (List ℕ)
-words_behind more = option_map_or (λ rest. words_of rest.now) more []
+not_empty : (x : ℕ) (ys : List ℕ) (i : ℕ) → is_blank x ≡ false → is_blank (get_or (x ∷ ys) i 0) ≡ true → not (is_empty (take i (x ∷ ys))) ≡ true
+not_empty x ys zero plain blank = cc
+not_empty x ys (suc i) plain blank = refl
 
--- more than two words are no words of a get
-pub get_words-more : (line first second : List ℕ) (more more' : Option (Bor (List ℕ))) (rest : Bor (List ℕ)) → words_of line ≡ first ∷ words_behind more → more ≡ Some rest
-    → words_of rest.now ≡ second ∷ words_behind more' → is_some more' ≡ true → None ≡ get_words (words_of line)
-unfolding get_words
-get_words-more line first second more more' rest is here is' some =
-    let further = words_of-some more' some in rw (is, here, is', further.2) refl
+-- a word up to a blank, and the words behind it
+pub words-cut : (xs : List ℕ) (i : ℕ) → BeginsWord xs → position is_blank xs ≡ Some i → words xs ≡ take i xs ∷ words (drop (i + 1) xs)
+unfolding words BeginsWord
+words-cut xs i word some =
+    let at = position-Some is_blank xs i 0 some in
+    let first : is_blank (get_or (word.0 ∷ word.1) i 0) ≡ true = subst (λ l. is_blank (get_or l i 0) ≡ true) word.2 at.1 in
+    let some_front : not (is_empty (take i xs)) ≡ true = subst (λ l. not (is_empty (take i l)) ≡ true) (sym word.2) (not_empty word.0 word.1 i word.3 first) in
+    rw (pieces-cut is_blank xs i some) (rw some_front refl)
 
--- more than three words are no words of a put
-pub put_words-more : (line first second third : List ℕ) (more more' more'' : Option (Bor (List ℕ))) (rest rest' : Bor (List ℕ)) → words_of line ≡ first ∷ words_behind more → more ≡ Some rest
-    → words_of rest.now ≡ second ∷ words_behind more' → more' ≡ Some rest' → words_of rest'.now ≡ third ∷ words_behind more'' → is_some more'' ≡ true
-    → None ≡ put_words (words_of line)
-unfolding put_words
-put_words-more line first second third more more' more'' rest rest' is here is' here' is'' some =
-    let further = words_of-some more'' some in rw (is, here, is', here', is'', further.2) refl
+-- a word up to the end
+pub words-uncut : (xs rest : List ℕ) → BeginsWord xs → position is_blank xs ≡ None → rest ≡ [] → words xs ≡ xs ∷ words rest
+unfolding words BeginsWord
+words-uncut xs rest word none is =
+    let some_word : not (is_empty xs) ≡ true = rw word.2 refl in
+    rw (pieces-uncut is_blank xs none, is) (rw some_word refl)

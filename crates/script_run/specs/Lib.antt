@@ -1,4 +1,6 @@
 pub mod CommandLine
+pub mod Forms
+pub mod Words
 pub mod Grammar
 pub mod Text
 pub mod Read
@@ -9,4 +11,5 @@ pub mod Promise
 pub mod Gathering
 pub mod Places
 pub mod Seen
+pub mod SeenLine
 pub mod Ending

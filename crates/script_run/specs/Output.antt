@@ -1,60 +1,75 @@
 -- What a run writes for a script.
 use Rattle.std.specs.Prelude.{ℕ, ◌+◌, List, [], ◌∷◌, ◌++◌, Option, Some, None, Result, Ok, Err, ◌==◌, if◌then◌else◌}
+use Rattle.std.specs.List.{flat_map}
 use Rattle.mvcc_key.specs.Lists.{is_empty}
 use Rattle.mvcc_key.specs.Cutting.{pieces}
 use Rattle.mvcc_key.specs.Order.{Key}
-use Rattle.mvcc_key.specs.Refusal as refusals
 use Rattle.mvcc_key.specs.Refusal.{Refusal}
 use Rattle.script_run.specs.Step.{State, first_state, Command, Reply, Finished, Got, Stepped, step}
 use Rattle.script_run.specs.Grammar.{Line, parse}
-use Rattle.script_run.specs.Text.{Reason, Answer, show}
+use Rattle.script_run.specs.Text.{Reason, BadLine, ByStore, Answer, show}
 use Rattle.script_run.specs.CommandLine.{Invocation, Run, invocation}
 
--- a line that is carried out: the state after it, and its answer
+-- a line that is carried out: the state after it, and its answers
 pub record Carried : Type 0 where
   pub state : State
-  pub answer : Answer
+  pub answers : List Answer
 
--- what the line asks
-abbrev pub command : Line → Command
-command (Line.Put key ts value) = Command.Put key ts value
-command (Line.Get key ts) = Command.Get key ts
+-- how a reply is shown; a command's own kind is the one that matters
+abbrev pub finished : Reply → List Answer
+finished Finished = Answer.Accepted ∷ []
+finished (Got found) = []
 
--- the key of a line
-abbrev pub key_of : Line → Key
-key_of (Line.Put key ts value) = key
-key_of (Line.Get key ts) = key
+-- how a read of a key is shown
+abbrev pub got : Key → Reply → List Answer
+got key Finished = []
+got key (Got found) = Answer.Got key found ∷ []
 
--- how a reply is shown
-abbrev pub shown : Key → Reply → Answer
-shown key Finished = Answer.Accepted
-shown key (Got found) = Answer.Got key found
+-- a command that is carried out: the state after it and how its reply is shown, or why it is refused
+abbrev pub carried : (Reply → List Answer) → Result Stepped Refusal → Result Carried Reason
+carried shown (Ok done) = Ok (record { state = done.state; answers = shown done.reply })
+carried shown (Err why) = Err (ByStore why)
 
--- the one refusal that a put gives
-abbrev pub reason : ℕ → Refusal → Reason
-reason n (refusals.TooOld existing) = Reason.TooOld existing
-reason n why = Reason.BadLine n
-
--- a refused command leaves the state
-abbrev pub or_refused : State → ℕ → Key → Result Stepped Refusal → Carried
-or_refused s n key (Ok done) = record { state = done.state; answer = shown key done.reply }
-or_refused s n key (Err why) = record { state = s; answer = Answer.Refused (reason n why) }
+-- what a line says is done
+abbrev pub perform : State → Line → Result Carried Reason
+perform s Line.Blank = Ok (record { state = s; answers = [] })
+perform s (Line.Put key ts value) = carried finished (step s (Command.Put key ts value))
+perform s (Line.Get key ts) = carried (got key) (step s (Command.Get key ts))
 
 -- a line without a reading is refused
-abbrev pub perform : State → ℕ → Option Line → Carried
-perform s n None = record { state = s; answer = Answer.Refused (Reason.BadLine n) }
-perform s n (Some line) = or_refused s n (key_of line) (step s (command line))
+abbrev pub perform_read : State → ℕ → Option Line → Result Carried Reason
+perform_read s n None = Err (BadLine n)
+perform_read s n (Some line) = perform s line
 
--- line number n: the state after it, and its answer
+-- a refused line leaves the state
+abbrev pub or_refused : State → Result Carried Reason → Carried
+or_refused s (Ok done) = done
+or_refused s (Err why) = record { state = s; answers = Answer.Refused why ∷ [] }
+
+-- what a line says, done or refused
+unfoldable pub performed : State → Line → Carried
+performed s line = or_refused s (perform s line)
+
+-- the line without a carriage return at its end
+unfoldable pub without_return : List ℕ → List ℕ
+without_return [] = []
+without_return (b ∷ []) = if b == 0x0d then [] else b ∷ []
+without_return (b ∷ c ∷ bs) = b ∷ without_return (c ∷ bs)
+
+-- line number n: the state after it, and its answers
 unfoldable pub carry_out : State → ℕ → List ℕ → Carried
-carry_out s n bytes = perform s n (parse bytes)
+carry_out s n bytes = or_refused s (perform_read s n (parse (without_return bytes)))
+
+-- the text of a line's answers
+abbrev pub text_of : Carried → List ℕ
+text_of c = flat_map show c.answers
 
 -- the text of the lines from number n on
 unfoldable pub output_from : State → ℕ → List (List ℕ) → List ℕ
 output_from s n [] = []
 output_from s n (l ∷ ls) =
     let c : Carried = carry_out s n l in
-    show c.answer ++ output_from c.state (n + 1) ls
+    text_of c ++ output_from c.state (n + 1) ls
 
 -- the pieces without an empty one at the end
 abbrev pub without_empty_end : List (List ℕ) → List (List ℕ)

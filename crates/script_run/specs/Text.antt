@@ -1,14 +1,17 @@
 -- The texts of answers and refusals.
-use Rattle.std.specs.Prelude.{ℕ, ◌/◌, ◌+◌, ◌%◌, List, [], ◌∷◌, ◌++◌, Option, Some, None, codes}
+use Rattle.std.specs.Prelude.{ℕ, ◌/◌, ◌+◌, ◌%◌, Bool, ◌&&◌, not, List, [], ◌∷◌, ◌++◌, Option, Some, None, nat_le, ◌==◌, codes, if◌then◌else◌}
+use Rattle.std.specs.List.{flat_map}
+use Rattle.std.specs.Char.{digit_char}
 use Rattle.std.specs.Fmt.{decimal, signed_decimal}
 use Rattle.mvcc_key.specs.Order.{Timestamp, Key}
 use Rattle.mvcc_key.specs.History.{Body, Deletion, Bytes, Int}
+use Rattle.mvcc_key.specs.Refusal.{Refusal, EmptyKey, KeyTooLong, BadTimestamp, TooOld}
 use Rattle.mvcc_value.specs.Found.{Found}
 
--- why a line is refused
+-- why a line is refused: by the script, or by the store
 pub data Reason : Type 0 where
   BadLine : (line : ℕ) → Reason
-  TooOld : (existing : Timestamp) → Reason
+  ByStore : (why : Refusal) → Reason
 
 -- what is shown
 pub data Answer : Type 0 where
@@ -16,9 +19,28 @@ pub data Answer : Type 0 where
   Got : (key : Key) (found : Option Found) → Answer
   Refused : (why : Reason) → Answer
 
+-- a byte by \x and two lower-case hexadecimal digits
+abbrev pub hex_byte : ℕ → List ℕ
+hex_byte b = 0x5c ∷ 0x78 ∷ digit_char (b / 16) ∷ digit_char (b % 16) ∷ []
+
+-- a printed byte but the quotation mark and the backslash
+abbrev pub is_unescaped : ℕ → Bool
+is_unescaped b = nat_le 0x21 b && nat_le b 0x7e && not (b == 0x22) && not (b == 0x5c)
+
+-- such a byte for itself, a backslash doubled, and every other byte by its digits
+unfoldable pub escaped_byte : ℕ → List ℕ
+escaped_byte b =
+    if is_unescaped b then b ∷ []
+    else if b == 0x5c then 0x5c ∷ 0x5c ∷ []
+    else hex_byte b
+
+-- bytes, each for itself or escaped
+abbrev pub escaped : List ℕ → List ℕ
+escaped bytes = flat_map escaped_byte bytes
+
 -- a key in quotation marks
 unfoldable pub quoted : Key → List ℕ
-quoted key = codes "\"" ++ key ++ codes "\""
+quoted key = codes "\"" ++ escaped key ++ codes "\""
 
 -- the last nine decimal digits
 abbrev pub nine_digits : ℕ → List ℕ
@@ -34,7 +56,7 @@ time t = decimal (t.wall / 1000000000) ++ codes "." ++ nine_digits (t.wall % 100
 -- a value by its kind
 unfoldable pub value : Body → List ℕ
 value Deletion = codes "/<empty>"
-value (Bytes bytes) = codes "/BYTES/" ++ bytes
+value (Bytes bytes) = codes "/BYTES/" ++ escaped bytes
 value (Int number) = codes "/INT/" ++ signed_decimal number
 
 -- what a read of a key shows
@@ -42,10 +64,18 @@ unfoldable pub get_line : Key → Option Found → List ℕ
 get_line key None = codes "get: " ++ quoted key ++ codes " -> <no data>\n"
 get_line key (Some f) = codes "get: " ++ quoted f.key ++ codes " -> " ++ value f.body ++ codes " @" ++ time f.ts ++ codes "\n"
 
--- the name of a refusal, and what it carries
+-- the name of a refusal, and what it carries; no command gives another so far
+unfoldable pub refusal : Refusal → List ℕ
+refusal EmptyKey = codes "EmptyKey"
+refusal (KeyTooLong length) = codes "KeyTooLong length=" ++ decimal length
+refusal BadTimestamp = codes "BadTimestamp"
+refusal (TooOld existing) = codes "TooOld existing=" ++ time existing
+refusal other = []
+
+-- why a line is refused
 unfoldable pub reason : Reason → List ℕ
 reason (BadLine n) = codes "BadLine line=" ++ decimal n
-reason (TooOld existing) = codes "TooOld existing=" ++ time existing
+reason (ByStore why) = refusal why
 
 -- the text of an answer: whole lines
 unfoldable pub show : Answer → List ℕ

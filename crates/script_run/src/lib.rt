@@ -3,12 +3,16 @@
 
 mod answers;
 mod command_line;
+mod forms;
 mod grammar;
+mod hex;
 mod program;
 mod script;
 mod session;
 mod text;
+mod unescape;
 mod versions;
+mod words;
 
 pub use program::{Status, run};
 

@@ -1,7 +1,7 @@
 //! A script as bytes: reading it, and cutting it into lines.
 ghost use Rattle.std.specs.Prelude.{◌≡◌, ◌≤◌, ◌<◌, ◌∷◌, ◌==◌, ◌+◌, IfOk, IfSome, IfErr, OnErr, length, position, vec_len};
 ghost use Rattle.io_edge.specs.Causes.{Rose};
-ghost use Rattle.script_run.specs.Output.{lines, whole_part};
+ghost use Rattle.script_run.specs.Output.{lines, whole_part, without_return};
 ghost use Rattle.script_run.specs.Promise.{ReadsScript, TakesWithin, script_max};
 
 use io_edge::{Failed, Source};
@@ -78,6 +78,16 @@ fn place_of_newline(script: &[u8]) -> Option<usize>
     ensures within { IfSome result (λ place. place < length script.now) }
 {
     script.iter().position(|byte| *byte == b'\n')
+}
+
+/// The line without a carriage return at its end.
+pub fn without_return(line: &[u8]) -> &[u8]
+    ensures { result.now ≡ without_return line.now }
+{
+    match line.split_last() {
+        Some((last, before)) => { if *last == b'\r' { before } else { line } }
+        None => line,
+    }
 }
 
 /// The script up to and with its last newline.

@@ -1,16 +1,17 @@
 //! What a script has made so far, and what one line does to it.
-ghost use Rattle.std.specs.Prelude.{◌≡◌, ◌++◌, OnOk, OnErr, IfOk, false};
+ghost use Rattle.std.specs.Prelude.{◌≡◌, ◌++◌, OnOk, OnErr, IfOk};
 ghost use Rattle.std.specs.Option.{option_map};
 ghost use Rattle.std.specs.Result.{result_ok};
-ghost use Rattle.mvcc_key.specs.Order.{is_no_time};
 ghost use Rattle.mvcc_key.specs.Seen.{time_of};
 ghost use Rattle.mvcc_value.specs.Seen.{plain_body};
 ghost use Rattle.script_run.specs.Step.{Put, first_state, step};
-ghost use Rattle.script_run.specs.Output.{carry_out};
-ghost use Rattle.script_run.specs.Text.{show};
-ghost use Rattle.script_run.specs.Seen.{AnswersStep, put_reason, reason_of};
+ghost use Rattle.script_run.specs.Output.{carry_out, performed, text_of};
+ghost use Rattle.script_run.specs.Text.{ByStore};
+ghost use Rattle.script_run.specs.Seen.{AnswersStep, put_refusal, reason_of};
+ghost use Rattle.script_run.specs.SeenLine.{line_of};
 
 use crate::grammar::{Line, parse};
+use crate::script::without_return;
 use crate::text::{Answer, Reason, show};
 use crate::versions::{PutFault, Versions};
 use mvcc_key::{OutOfMemory, Timestamp};
@@ -43,7 +44,7 @@ impl Session {
         }
     }
 
-    /// Carries out a line, counted from 1, and appends its answer to the text. Where memory is wanting the text stays as it
+    /// Carries out a line, counted from 1, and appends the text of its answers. Where memory is wanting the text stays as it
     /// was.
     pub fn carry_out(
         &mut self,
@@ -53,18 +54,39 @@ impl Session {
         text: &mut Vec<u8>,
     ) -> Result<(), OutOfMemory>
         ensures state { OnOk result (self.new ≡ (carry_out self.old number line.now).state) }
-        ensures answer { OnOk result (text.new.items ≡ text.old.items ++ show (carry_out self.old number line.now).answer) }
+        ensures answer { OnOk result (text.new.items ≡ text.old.items ++ text_of (carry_out self.old number line.now)) }
         ensures err { OnErr result (text.new.items ≡ text.old.items) }
     {
-        match parse(line) {
+        match parse(alloc, without_return(line))? {
             None => show(Answer::Refused(Reason::BadLine(number)), text),
-            Some(Line::Get { key, ts }) => {
-                show(Answer::of_read(key, self.versions.get(key, ts)), text)
+            Some(line) => self.perform(alloc, &line, text),
+        }
+    }
+
+    /// Does what a line says, and appends the text of its answers. Where memory is wanting the text stays as it was.
+    fn perform(
+        &mut self,
+        alloc: Global,
+        line: &Line<'_>,
+        text: &mut Vec<u8>,
+    ) -> Result<(), OutOfMemory>
+        ensures state { OnOk result (self.new ≡ (performed self.old (line_of line.now)).state) }
+        ensures answer { OnOk result (text.new.items ≡ text.old.items ++ text_of (performed self.old (line_of line.now))) }
+        ensures err { OnErr result (text.new.items ≡ text.old.items) }
+    {
+        match line {
+            Line::Blank => Ok(()),
+            Line::Get { key, ts } => {
+                let key = key.as_slice();
+                show(Answer::of_read(key, self.versions.get(key, *ts)), text)
             }
-            Some(Line::Put { key, ts, value }) => match self.put(alloc, key, ts, value)? {
-                None => show(Answer::Accepted, text),
-                Some(why) => show(Answer::Refused(why), text),
-            },
+            Line::Put { key, ts, value } => {
+                let value = PlainValue::Bytes(value.as_slice());
+                match self.put(alloc, key.as_slice(), *ts, value)? {
+                    None => show(Answer::Accepted, text),
+                    Some(why) => show(Answer::Refused(why), text),
+                }
+            }
         }
     }
 
@@ -76,7 +98,6 @@ impl Session {
         ts: Timestamp,
         value: PlainValue<'_>,
     ) -> Result<Option<Reason>, OutOfMemory>
-        requires { is_no_time (time_of ts) ≡ false }
         ensures { IfOk result (λ refused. AnswersStep (option_map reason_of refused) self.old self.new (step self.old (Put key.now (time_of ts) (plain_body value.entry)))) }
     {
         if let Err(fault) = self.versions.put(alloc, key, ts, value) {
@@ -89,9 +110,12 @@ impl Session {
 
 /// The reason that a fault tells, where it is not want of memory.
 fn refused(fault: PutFault) -> Result<Reason, OutOfMemory>
-    ensures { option_map reason_of (result_ok result) ≡ put_reason fault }
+    ensures { option_map reason_of (result_ok result) ≡ option_map ByStore (put_refusal fault) }
 {
     match fault {
+        PutFault::EmptyKey => Ok(Reason::EmptyKey),
+        PutFault::KeyTooLong(length) => Ok(Reason::KeyTooLong(length)),
+        PutFault::BadTimestamp => Ok(Reason::BadTimestamp),
         PutFault::TooOld(existing) => Ok(Reason::TooOld(existing)),
         PutFault::OutOfMemory => Err(OutOfMemory),
     }

@@ -30,16 +30,16 @@ fn source(
     Ok(MemSource::new(script, piece, failing))
 }
 
-/// The script with spaces behind it, up to this many bytes.
-fn padded(alloc: Global, script: &[u8], size: usize) -> Result<Vec<u8>, AllocError> {
+/// The script with copies of a byte behind it, up to this many bytes.
+fn padded(alloc: Global, script: &[u8], byte: u8, size: usize) -> Result<Vec<u8>, AllocError> {
     let mut padded = Vec::from_slice(alloc, script)?;
-    padded.resize(size, b' ')?;
+    padded.resize(size, byte)?;
     Ok(padded)
 }
 
 #[test]
 fn scripts_get_their_answers(rt: HostRuntime) -> Result<(), Fail> {
-    let cases: [(&[u8], &[u8]); 8] = [
+    let cases: [(&[u8], &[u8]); 12] = [
         (b"", b""),
         (
             PUT_AND_GET,
@@ -55,16 +55,32 @@ fn scripts_get_their_answers(rt: HostRuntime) -> Result<(), Fail> {
             b"ok\nok\nget: \"b\" -> /BYTES/new @7.000000000,0\nget: \"b\" -> <no data>\nget: \"c\" -> <no data>\n",
         ),
         (
-            b"\nget  k=a ts=1\nput k=a ts=0 v=x\nput k=a ts=9223372037 v=x\nput k=a ts=9223372036 v=\n",
-            b"error: BadLine line=1\nerror: BadLine line=2\nerror: BadLine line=3\nerror: BadLine line=4\nok\n",
-        ),
-        (
-            b"put k=m ts=0000000000000000000000003 v=x\nput k=a ts=2 v=y\nput k=z ts=1 v=z\nget k=m ts=9223372036",
+            b"put k=m ts=0000000000000000000000003,00 v=x\nput k=a ts=2 v=y\nput k=z ts=1 v=z\nget k=m ts=9223372036",
             b"ok\nok\nok\nget: \"m\" -> /BYTES/x @3.000000000,0\n",
         ),
         (
-            b"put k=a ts=1 v=x y\nput k=a ts=1 v=x\r\nput k=\"a\" ts=1 v=x\n",
-            b"error: BadLine line=1\nerror: BadLine line=2\nerror: BadLine line=3\n",
+            b"\n \t \n# put k=a\n  put \t k=a  v=abc\tts=1\r\nget ts=1,5 k=\\x61\r",
+            b"ok\nget: \"a\" -> /BYTES/abc @1.000000000,0\n",
+        ),
+        (
+            b"put k=a ts=9223372037 v=x\nput k=a ts=9223372036.854775808 v=x\nput k=a ts=9223372036.854775807,2147483647 v=x=y\nget k=a ts=9223372036.854775807,2147483647",
+            b"error: BadLine line=1\nerror: BadLine line=2\nok\nget: \"a\" -> /BYTES/x=y @9223372036.854775807,2147483647\n",
+        ),
+        (
+            b"put k=a ts=1 v=x y\nput k=a ts=1 v=x\r\r\nput k=a ts=1 v=x int=1\nput k=a ts=1\nput k=a k=b ts=1 v=x\nget k ts=1\nget k=a ts=1 k\nputt\n=\n",
+            b"error: BadLine line=1\nerror: BadLine line=2\nerror: BadLine line=3\nerror: BadLine line=4\nerror: BadLine line=5\nerror: BadLine line=6\nerror: BadLine line=7\nerror: BadLine line=8\nerror: BadLine line=9\n",
+        ),
+        (
+            b"get k=a ts=\nget k=a ts=1.\nget k=a ts=1.0000000000\nget k=a ts=1,\nget k=a ts=1,2147483648\nget k=a ts=+1\nget k=\\ ts=1\nget k=\\x0 ts=1\nget k=\\x0g ts=1\nget k=\x7f ts=1\nget k= ts=0",
+            b"error: BadLine line=1\nerror: BadLine line=2\nerror: BadLine line=3\nerror: BadLine line=4\nerror: BadLine line=5\nerror: BadLine line=6\nerror: BadLine line=7\nerror: BadLine line=8\nerror: BadLine line=9\nerror: BadLine line=10\nget: \"\" -> <no data>\n",
+        ),
+        (
+            b"put v=\\xff\\x4A~! k=\"\\\\\\x20 ts=0.5\nget k=\\x22\\x5c\\x20 ts=0.500000000,1",
+            b"ok\nget: \"\\x22\\\\\\x20\" -> /BYTES/\\xffJ~! @0.500000000,0\n",
+        ),
+        (
+            b"put k= ts=0 v=x\nput k=a ts=0 v=x\nput k=a ts=0,1 v=\nget k=a ts=1",
+            b"error: EmptyKey\nerror: BadTimestamp\nok\nget: \"a\" -> /BYTES/ @0.000000000,1\n",
         ),
     ];
     let words = words(rt.alloc(), "run")?;
@@ -76,6 +92,24 @@ fn scripts_get_their_answers(rt: HostRuntime) -> Result<(), Fail> {
             assert!(rt; status == Status::Done);
             assert_eq!(rt; sink.bytes(), answers);
         }
+    }
+    Ok(())
+}
+
+#[test]
+fn a_key_has_at_most_4096_bytes(rt: HostRuntime) -> Result<(), Fail> {
+    let words = words(rt.alloc(), "run")?;
+    let start = b"put ts=1 v=x k=";
+    for (length, answer) in [
+        (4096, b"ok\n".as_slice()),
+        (4097, b"error: KeyTooLong length=4097\n".as_slice()),
+    ] {
+        let script = padded(rt.alloc(), start, b'a', start.len() + length)?;
+        let mut source = source(rt.alloc(), &script, 1_000, &[])?;
+        let mut sink = MemSink::new(rt.alloc(), 1_000, 100, Vec::new(rt.alloc()))?;
+        let status = run(&rt, rt.alloc(), &words, &mut source, &mut sink);
+        assert!(rt; status == Status::Done);
+        assert_eq!(rt; sink.bytes(), answer);
     }
     Ok(())
 }
@@ -119,7 +153,7 @@ fn a_script_that_is_too_long_gets_the_answers_of_its_whole_lines(
     rt: HostRuntime,
 ) -> Result<(), Fail> {
     let words = words(rt.alloc(), "run")?;
-    let spaces = padded(rt.alloc(), b"", 1_048_577)?;
+    let spaces = padded(rt.alloc(), b"", b' ', 1_048_577)?;
     let mut sink = MemSink::new(rt.alloc(), 1_000, 100, Vec::new(rt.alloc()))?;
     let mut blank = source(rt.alloc(), &spaces, 100_000, &[])?;
     let status = run(&rt, rt.alloc(), &words, &mut blank, &mut sink);
@@ -127,7 +161,7 @@ fn a_script_that_is_too_long_gets_the_answers_of_its_whole_lines(
     assert!(rt; status.number() == 5);
     assert_eq!(rt; sink.bytes(), [].as_slice());
 
-    let lines = padded(rt.alloc(), PUT_AND_GET, 1_048_577)?;
+    let lines = padded(rt.alloc(), PUT_AND_GET, b' ', 1_048_577)?;
     let mut long = source(rt.alloc(), &lines, 100_000, &[])?;
     let status = run(&rt, rt.alloc(), &words, &mut long, &mut sink);
     assert!(rt; status == Status::ScriptTooLong);

@@ -1,13 +1,15 @@
 //! The texts of answers and refusals.
 ghost use Rattle.std.specs.Prelude.{◌≡◌, ◌++◌, ◌+◌, ◌%◌, ◌^◌, ◌<◌, List, ℕ, decimal, OnOk, OnErr};
 ghost use Rattle.std.specs.Fmt.{signed_decimal};
+ghost use Rattle.std.specs.List.{list_all};
 ghost use Rattle.std.specs.Option.{option_map};
 ghost use Rattle.mvcc_key.specs.Seen.{time_of};
 ghost use Rattle.mvcc_value.specs.Seen.{owned_body};
-ghost use Rattle.script_run.specs.Text.{Got, get_line, nine_digits, quoted, reason, show, time, value};
+ghost use Rattle.script_run.specs.Text.{Got, escaped, escaped_byte, get_line, is_unescaped, nine_digits, quoted, reason, show, time, value};
 ghost use Rattle.script_run.specs.Seen.{answer_of, found_of, reason_of};
 ghost use Rattle.script_run.specs.Promise.{Extends};
 
+use crate::hex::hex_byte;
 use crate::versions::Version;
 use itoa::Buffer;
 use mvcc_key::{OutOfMemory, Timestamp};
@@ -18,6 +20,11 @@ use mvcc_value::OwnedValue;
 pub enum Reason {
     /// The line, counted from 1, has no reading.
     BadLine(u64),
+    EmptyKey,
+    /// The key has this many bytes, more than it may have.
+    KeyTooLong(usize),
+    /// The timestamp is none.
+    BadTimestamp,
     /// A version of the key has this timestamp, and it is not older than the one that was to be put.
     TooOld(Timestamp),
 }
@@ -102,23 +109,38 @@ fn append_get_line(
     }
 }
 
-#[tactic(auto, unfolding(crate::specs::Text::reason))]
+#[tactic(auto, unfolding(crate::specs::Text::reason, crate::specs::Text::refusal))]
 fn append_reason(why: Reason, into: &mut Vec<u8>) -> Result<(), OutOfMemory>
     ensures ok { OnOk result (into.new.items ≡ into.old.items ++ reason (reason_of why)) }
     ensures err { OnErr result (Extends into.old.items into.new.items) }
 {
     match why {
-        Reason::BadLine(line) => {
-            append(b"BadLine line=", into)?;
-            append_number(line, into)?;
-            Ok(())
-        }
-        Reason::TooOld(existing) => {
-            append(b"TooOld existing=", into)?;
-            append_time(existing, into)?;
-            Ok(())
-        }
+        Reason::BadLine(line) => append_numbered(b"BadLine line=", line, into),
+        Reason::EmptyKey => append(b"EmptyKey", into),
+        Reason::KeyTooLong(length) => append_numbered(b"KeyTooLong length=", length as u64, into),
+        Reason::BadTimestamp => append(b"BadTimestamp", into),
+        Reason::TooOld(existing) => append_timed(b"TooOld existing=", existing, into),
     }
+}
+
+/// Words with a number behind them.
+fn append_numbered(words: &[u8], number: u64, into: &mut Vec<u8>) -> Result<(), OutOfMemory>
+    ensures ok { OnOk result (into.new.items ≡ into.old.items ++ (words.now ++ decimal number)) }
+    ensures err { OnErr result (Extends into.old.items into.new.items) }
+{
+    append(words, into)?;
+    append_number(number, into)?;
+    Ok(())
+}
+
+/// Words with a timestamp behind them.
+fn append_timed(words: &[u8], ts: Timestamp, into: &mut Vec<u8>) -> Result<(), OutOfMemory>
+    ensures ok { OnOk result (into.new.items ≡ into.old.items ++ (words.now ++ time (time_of ts))) }
+    ensures err { OnErr result (Extends into.old.items into.new.items) }
+{
+    append(words, into)?;
+    append_time(ts, into)?;
+    Ok(())
 }
 
 /// A key in quotation marks.
@@ -128,7 +150,7 @@ fn append_quoted(key: &[u8], into: &mut Vec<u8>) -> Result<(), OutOfMemory>
     ensures err { OnErr result (Extends into.old.items into.new.items) }
 {
     append(b"\"", into)?;
-    append(key, into)?;
+    append_escaped(key, into)?;
     append(b"\"", into)?;
     Ok(())
 }
@@ -142,7 +164,7 @@ fn append_value(stored: &OwnedValue, into: &mut Vec<u8>) -> Result<(), OutOfMemo
     match stored {
         OwnedValue::Bytes(bytes) => {
             append(b"/BYTES/", into)?;
-            append(bytes.bytes(), into)?;
+            append_escaped(bytes.bytes(), into)?;
             Ok(())
         }
         OwnedValue::Int(number) => {
@@ -151,6 +173,53 @@ fn append_value(stored: &OwnedValue, into: &mut Vec<u8>) -> Result<(), OutOfMemo
             Ok(())
         }
     }
+}
+
+/// Bytes, each for itself or escaped.
+#[tactic(auto, using(crate::proofs::TextLaws::unescaped_text))]
+fn append_escaped(bytes: &[u8], into: &mut Vec<u8>) -> Result<(), OutOfMemory>
+    ensures ok { OnOk result (into.new.items ≡ into.old.items ++ escaped bytes.now) }
+    ensures err { OnErr result (Extends into.old.items into.new.items) }
+{
+    if are_unescaped(bytes) {
+        append(bytes, into)?;
+        return Ok(());
+    }
+    for byte in bytes {
+        append_byte(*byte, into)?;
+    }
+    Ok(())
+}
+
+#[tactic(auto, unfolding(crate::specs::Text::escaped_byte))]
+fn append_byte(byte: u8, into: &mut Vec<u8>) -> Result<(), OutOfMemory>
+    ensures ok { OnOk result (into.new.items ≡ into.old.items ++ escaped_byte byte) }
+    ensures err { OnErr result (into.new.items ≡ into.old.items) }
+{
+    if is_unescaped(byte) {
+        append(&[byte], into)
+    } else if byte == b'\\' {
+        append(b"\\\\", into)
+    } else {
+        append(
+            &[b'\\', b'x', hex_byte(byte / 16), hex_byte(byte % 16)],
+            into,
+        )
+    }
+}
+
+/// Whether each of the bytes is printed as it is.
+fn are_unescaped(bytes: &[u8]) -> bool
+    ensures { result ≡ list_all is_unescaped bytes.now }
+{
+    bytes.iter().all(|byte| is_unescaped(*byte))
+}
+
+/// Whether the byte is printed as it is.
+fn is_unescaped(byte: u8) -> bool
+    ensures { result ≡ is_unescaped byte }
+{
+    (0x21..=0x7e).contains(&byte) && byte != b'"' && byte != b'\\'
 }
 
 /// Seconds, nine digits of nanoseconds, and the counter.

@@ -9,20 +9,23 @@
 //! get k=a ts=2        a@1=x
 //! ```
 ghost use Rattle.std.specs.Prelude.{◌≡◌, [], map, drop, false, IfOk};
-ghost use Rattle.std.specs.Option.{option_map};
+ghost use Rattle.std.specs.Option.{option_and_then, option_map};
 ghost use Rattle.mvcc_key.specs.Order.{is_before, is_no_time, is_same_key};
 ghost use Rattle.mvcc_key.specs.Seen.{time_of};
 ghost use Rattle.mvcc_value.specs.Seen.{plain_body};
 ghost use Rattle.script_run.specs.Read.{get};
-ghost use Rattle.script_run.specs.Write.{new_version, put};
+ghost use Rattle.script_run.specs.Write.{add, new_version, put, unwritable};
 ghost use Rattle.script_run.specs.Places.{AreVersions, IsPlace, history_of, in_the_way, is_ahead, is_of_lower_key, version_at};
-ghost use Rattle.script_run.specs.Seen.{AnswersPut, found_of, version_of};
+ghost use Rattle.script_run.specs.Seen.{AnswersPut, found_of, put_refusal, version_of};
 
 use mvcc_key::{Key, OutOfMemory, Timestamp};
 use mvcc_value::{OwnedValue, PlainValue};
 use std::alloc::{AllocFailed, Global};
 use std::cmp::Ordering;
 use std::marker::Model;
+
+/// The longest key, in bytes.
+const MAX_KEY_LENGTH: usize = 4096;
 
 /// A committed value of a key. It has no local timestamp.
 #[derive(Debug, Drop)]
@@ -36,6 +39,11 @@ pub struct Version {
 #[derive(Debug, Drop)]
 pub enum PutFault {
     OutOfMemory,
+    EmptyKey,
+    /// The key has this many bytes, more than 4,096.
+    KeyTooLong(usize),
+    /// The timestamp is none.
+    BadTimestamp,
     /// A version of the key has this timestamp, and it is not older than the one that was to be put.
     TooOld(Timestamp),
 }
@@ -99,7 +107,8 @@ impl Versions {
         version_of_key(versions, place_at(versions, key, ts), key)
     }
 
-    /// Adds a version, where the key has none that is as new.
+    /// Puts a value. A key has 1 to 4,096 bytes, and the timestamp is above [`Timestamp::NONE`] and above those of the key's
+    /// versions.
     pub fn put(
         &mut self,
         alloc: Global,
@@ -107,8 +116,24 @@ impl Versions {
         ts: Timestamp,
         value: PlainValue<'_>,
     ) -> Result<(), PutFault>
-        requires { is_no_time (time_of ts) ≡ false }
         ensures { AnswersPut result self.old self.new (put (history_of self.old) key.now (time_of ts) (plain_body value.entry)) }
+    {
+        if let Some(why) = unwritable(key, ts) {
+            return Err(why);
+        }
+        self.add(alloc, key, ts, value)
+    }
+
+    /// Adds a version, where the key has none that is as new.
+    fn add(
+        &mut self,
+        alloc: Global,
+        key: &[u8],
+        ts: Timestamp,
+        value: PlainValue<'_>,
+    ) -> Result<(), PutFault>
+        requires { is_no_time (time_of ts) ≡ false }
+        ensures { AnswersPut result self.old self.new (add (history_of self.old) key.now (time_of ts) (plain_body value.entry)) }
     {
         let versions = self.held.as_slice();
         let place = place_of(versions, key);
@@ -182,6 +207,27 @@ impl Version {
             Ordering::Equal | Ordering::Greater => false,
         }
     }
+}
+
+/// Why a key cannot be written at a timestamp, where it cannot.
+fn unwritable(key: &[u8], ts: Timestamp) -> Option<PutFault>
+    ensures { option_and_then put_refusal result ≡ unwritable key.now (time_of ts) }
+{
+    if key.is_empty() {
+        Some(PutFault::EmptyKey)
+    } else if key.len() > MAX_KEY_LENGTH {
+        Some(PutFault::KeyTooLong(key.len()))
+    } else if is_no_time(ts) {
+        Some(PutFault::BadTimestamp)
+    } else {
+        None
+    }
+}
+
+fn is_no_time(ts: Timestamp) -> bool
+    ensures { result ≡ is_no_time (time_of ts) }
+{
+    ts.wall() == 0 && ts.logical() == 0
 }
 
 /// Where a read of the key at the timestamp begins, by halves.

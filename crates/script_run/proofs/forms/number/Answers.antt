@@ -1,8 +1,8 @@
 use Rattle.std.proofs.Common.{arith, ◌<◌, ◌+◌, ◌*◌, ◌-◌}
 use Rattle.std.proofs.lemmas.List.Sums.{fold_more}
-use Rattle.script_run.specs.Grammar.{digits_value}
+use Rattle.script_run.specs.Forms.{digits_value}
 use Rattle.script_run.proofs.NumberLaws.{value-take-le, none-above}
-use Rattle.script_run.proofs.grammar.number.Goals as goal
+use Rattle.script_run.proofs.forms.number.Goals as goal
 
 pub returns-then-next-from-clause-value : goal.returns-then-next-from-clause-value
 returns-then-next-from-clause-value c =

@@ -1,0 +1,142 @@
+//! The forms in which a line writes keys, values and times.
+ghost use Rattle.std.specs.Prelude.{◌≡◌, ◌<◌, ◌≤◌, ◌==◌, ◌^◌, IfOk, IfSome, length, position};
+ghost use Rattle.std.specs.List.{list_all};
+ghost use Rattle.std.specs.Option.{option_map};
+ghost use Rattle.std.specs.Cow.{cow_slice_items};
+ghost use Rattle.mvcc_key.specs.Cutting.{cut_at};
+ghost use Rattle.mvcc_key.specs.Seen.{time_of};
+ghost use Rattle.script_run.specs.Forms.{counter, fraction, is_plain, nanos, number_up_to, text, time, wall};
+
+use crate::unescape::{is_plain, unescape};
+use mvcc_key::{OutOfMemory, Timestamp};
+use std::alloc::Global;
+use std::borrow::CowSlice;
+
+/// The last second that a wall time holds whole.
+const MAX_SECONDS: u64 = 9_223_372_036;
+
+/// The greatest logical counter.
+const MAX_LOGICAL: u64 = (1 << 31) - 1;
+
+/// The bytes that a TEXT writes, where it is one: bytes 21 to 7e but `\` stand for themselves, `\\` is a backslash, and `\xHH`
+/// any byte, by two hexadecimal digits of either case. A text without escapes is lent.
+#[tactic(auto, using(crate::proofs::EscapeLaws::plain_text))]
+pub fn text(alloc: Global, bytes: &[u8]) -> Result<Option<CowSlice<'_, u8>>, OutOfMemory>
+    ensures { IfOk result (λ read. option_map cow_slice_items read ≡ text bytes.now) }
+{
+    if are_plain(bytes) {
+        return Ok(Some(CowSlice::Borrowed(bytes)));
+    }
+    match unescape(alloc, bytes)? {
+        Some(text) => Ok(Some(CowSlice::Owned(text))),
+        None => Ok(None),
+    }
+}
+
+/// Whether each of the bytes stands for itself.
+fn are_plain(bytes: &[u8]) -> bool
+    ensures { result ≡ list_all is_plain bytes.now }
+{
+    bytes.iter().all(|byte| is_plain(*byte))
+}
+
+/// What a TIME says, where it is one: seconds, a point and 1 to 9 digits where there is a fraction, a comma and digits where
+/// there is a logical counter, all in the ranges of timestamps. The time 0 is [`Timestamp::NONE`].
+#[tactic(auto, unfolding(crate::specs::Forms::time))]
+pub fn time(bytes: &[u8]) -> Option<Timestamp>
+    ensures { option_map time_of result ≡ time bytes.now }
+{
+    let (wall_part, behind) = cut(bytes, b',');
+    let nanos = wall(wall_part)?;
+    let logical = counter(behind)?;
+    Timestamp::new(nanos, logical)
+}
+
+/// The nanoseconds of a time without a logical counter, where the bytes are one.
+#[tactic(auto, unfolding(crate::specs::Forms::wall))]
+pub fn wall(bytes: &[u8]) -> Option<u64>
+    ensures value { result ≡ wall bytes.now }
+    ensures in_range { IfSome result (λ nanos. nanos < 2 ^ 63) }
+{
+    let (whole, behind) = cut(bytes, b'.');
+    let seconds = number(whole, MAX_SECONDS)?;
+    let rest = fraction(behind)?;
+    let nanos = seconds * 1_000_000_000 + rest;
+    if nanos < 1 << 63 { Some(nanos) } else { None }
+}
+
+fn fraction(digits: Option<&[u8]>) -> Option<u64>
+    ensures value { result ≡ fraction (option_map (λ d. d.now) digits.entry) }
+    ensures short { IfSome result (λ n. n < 10 ^ 9) }
+{
+    match digits {
+        Some(digits) => nanos(digits),
+        None => Some(0),
+    }
+}
+
+/// The nanoseconds of a fraction, by its digits and zeros behind them.
+#[tactic(auto, unfolding(crate::specs::Forms::nanos))]
+fn nanos(digits: &[u8]) -> Option<u64>
+    ensures value { result ≡ nanos digits.now }
+    ensures short { IfSome result (λ n. n < 10 ^ 9) }
+{
+    if digits.is_empty() || digits.len() > 9 {
+        return None;
+    }
+    let mut padded = [b'0'; 9];
+    padded[..digits.len()].copy_from_slice(digits);
+    number(&padded, 999_999_999)
+}
+
+fn counter(digits: Option<&[u8]>) -> Option<u32>
+    ensures value { result ≡ counter (option_map (λ d. d.now) digits.entry) }
+    ensures in_range { IfSome result (λ n. n < 2 ^ 31) }
+{
+    let Some(digits) = digits else {
+        return Some(0);
+    };
+    let counter = number(digits, MAX_LOGICAL)?;
+    Some(counter as u32)
+}
+
+/// The number that the digits write, where it is at most the limit.
+#[tactic(auto, unfolding(crate::specs::Forms::number_up_to))]
+pub fn number(digits: &[u8], limit: u64) -> Option<u64>
+    ensures value { result ≡ number_up_to limit digits.now }
+    ensures low { IfSome result (λ n. n ≤ limit) }
+{
+    if digits.is_empty() {
+        return None;
+    }
+    let mut number: u64 = 0;
+    for digit in digits {
+        if !digit.is_ascii_digit() {
+            return None;
+        }
+        let next = u128::from(number) * 10 + u128::from(*digit - b'0');
+        if next > u128::from(limit) {
+            return None;
+        }
+        number = next as u64;
+    }
+    Some(number)
+}
+
+/// What stands before the first such byte, and what stands behind it, where there is one.
+pub fn cut(bytes: &[u8], at: u8) -> (&[u8], Option<&[u8]>)
+    ensures before { result.0.now ≡ (cut_at at bytes.now).before }
+    ensures after { option_map (λ r. r.now) result.1 ≡ (cut_at at bytes.now).after }
+{
+    match place_of(bytes, at) {
+        Some(place) => (bytes.split_at(place).0, Some(bytes.split_at(place + 1).1)),
+        None => (bytes, None),
+    }
+}
+
+fn place_of(bytes: &[u8], at: u8) -> Option<usize>
+    ensures value { result ≡ position (λ b. b == at) bytes.now }
+    ensures within { IfSome result (λ place. place < length bytes.now) }
+{
+    bytes.iter().position(|byte| *byte == at)
+}
