@@ -1,0 +1,6 @@
+use Rattle.txn_state.specs.SeenId.{id_of}
+use Rattle.txn_state.proofs.id.UuidFromTxnId.from.Goals as goal
+
+pub returns : goal.returns
+unfolding id_of
+returns c = c.from_u128.ensures

@@ -1,0 +1,5 @@
+pub mod Transaction
+pub mod SeenId
+pub mod SeenTxn
+pub mod Seen
+pub mod Texts
