@@ -1,0 +1,11 @@
+pub mod RecordLaws
+pub mod EntryValueLaws
+pub mod FieldLaws
+pub mod WalkLaws
+pub mod Examples
+pub mod EncodingLaws
+pub mod EntriesLaws
+pub mod StoredLaws
+pub mod BlockLaws
+pub mod ReadBackLaws
+pub mod EntryRuleLaws

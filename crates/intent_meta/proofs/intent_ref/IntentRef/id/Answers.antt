@@ -1,0 +1,13 @@
+use Rattle.std.proofs.Common.{◌∙◌, arith}
+use Rattle.intent_meta.proofs.FieldLaws.{HasFields-record_in}
+use Rattle.intent_meta.proofs.intent_ref.IntentRef.id.Goals as goal
+
+pub split_at-requires : goal.split_at-requires
+split_at-requires c =
+    let fields = HasFields-record_in c.args.self.now.bytes.now c.args.self.now.are_bytes c.args.self.now.are_read in
+    let long = fields.long in omega arith
+
+pub returns : goal.returns
+returns c =
+    let fields = HasFields-record_in c.args.self.now.bytes.now c.args.self.now.are_bytes c.args.self.now.are_read in
+    c.from_bytes.ensures ∙ c.copy_from_slice.ensures.after ∙ c.split_at.ensures.front ∙ fields.id
