@@ -1,0 +1,14 @@
+pub mod FieldLaws
+pub mod NumberLaws
+pub mod SumLaws
+pub mod KeyChangeLaws
+pub mod NewVersionLaws
+pub mod BoundsLaws
+pub mod AgeingLaws
+pub mod SliceLaws
+pub mod SpanChangeLaws
+pub mod PutLaws
+pub mod SettlingLaws
+pub mod CounterLaws
+pub mod StatsLaws
+pub mod GroupLaws

@@ -1,0 +1,9 @@
+pub mod DeadSince
+pub mod ComputeStats
+pub mod Limits
+pub mod Running
+pub mod Seen
+pub mod Settling
+pub mod Counters
+pub mod Tallies
+pub mod Laws

@@ -1,0 +1,67 @@
+//! The names of the bounded statistics, in their order.
+ghost use Rattle.std.specs.Prelude.{◌≡◌, ◌<◌};
+ghost use Rattle.stat_core.specs.Running.{place_of};
+ghost use Rattle.stat_core.specs.Seen.{field_of};
+
+use std::error::Error;
+use std::fmt;
+
+/// One of the statistics that a bound holds for, in the order in which they are printed and compared (CockroachDB's
+/// `MVCCStats`, `pkg/storage/enginepb`).
+#[derive(Clone, Copy, Debug, PartialEq, Eq)]
+pub enum Field {
+    KeyCount,
+    KeyBytes,
+    ValCount,
+    ValBytes,
+    LiveCount,
+    LiveBytes,
+    IntentCount,
+    IntentBytes,
+    IntentAge,
+    GcBytesAge,
+    RangeKeyCount,
+    RangeKeyBytes,
+    RangeValCount,
+    RangeValBytes,
+}
+
+/// A statistic would pass the bound. It is the first that would, in the order of [`Field`].
+#[derive(Clone, Copy, Debug, PartialEq, Eq)]
+pub struct CountOverflow {
+    pub field: Field,
+}
+
+impl fmt::Display for CountOverflow {
+    fn fmt<W: fmt::Write>(&self, f: &mut fmt::Formatter<W>) -> fmt::Result {
+        let field = self.field;
+        write!(f, "{field:?} would pass its bound")
+    }
+}
+
+impl Error for CountOverflow {}
+
+impl Field {
+    /// The field at this place of their order.
+    pub(crate) fn at(place: usize) -> Field
+        requires { place < 14 }
+        ensures { place_of (field_of result) ≡ place }
+    {
+        match place {
+            0 => Field::KeyCount,
+            1 => Field::KeyBytes,
+            2 => Field::ValCount,
+            3 => Field::ValBytes,
+            4 => Field::LiveCount,
+            5 => Field::LiveBytes,
+            6 => Field::IntentCount,
+            7 => Field::IntentBytes,
+            8 => Field::IntentAge,
+            9 => Field::GcBytesAge,
+            10 => Field::RangeKeyCount,
+            11 => Field::RangeKeyBytes,
+            12 => Field::RangeValCount,
+            _ => Field::RangeValBytes,
+        }
+    }
+}
