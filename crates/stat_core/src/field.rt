@@ -1,5 +1,6 @@
 //! The names of the bounded statistics, in their order.
-ghost use Rattle.std.specs.Prelude.{◌≡◌, ◌<◌};
+ghost use Rattle.std.specs.Prelude.{◌≡◌, ◌<◌, Some};
+ghost use Rattle.stat_core.specs.Names.{field_name, overflow_text};
 ghost use Rattle.stat_core.specs.Running.{place_of};
 ghost use Rattle.stat_core.specs.Seen.{field_of};
 
@@ -33,9 +34,11 @@ pub struct CountOverflow {
 }
 
 impl fmt::Display for CountOverflow {
+    ghost output = { λ e. Some (overflow_text (field_of e.field)) };
+
     fn fmt<W: fmt::Write>(&self, f: &mut fmt::Formatter<W>) -> fmt::Result {
-        let field = self.field;
-        write!(f, "{field:?} would pass its bound")
+        let name = self.field.name();
+        write!(f, "{name} would pass its bound")
     }
 }
 
@@ -62,6 +65,28 @@ impl Field {
             11 => Field::RangeKeyBytes,
             12 => Field::RangeValCount,
             _ => Field::RangeValBytes,
+        }
+    }
+
+    /// Its name, as it is printed: that of the method of [`Stats`](crate::Stats) that reads it.
+    pub fn name(self) -> &'static str
+        ensures { result.now ≡ field_name (field_of self) }
+    {
+        match self {
+            Field::KeyCount => "key_count",
+            Field::KeyBytes => "key_bytes",
+            Field::ValCount => "val_count",
+            Field::ValBytes => "val_bytes",
+            Field::LiveCount => "live_count",
+            Field::LiveBytes => "live_bytes",
+            Field::IntentCount => "intent_count",
+            Field::IntentBytes => "intent_bytes",
+            Field::IntentAge => "intent_age",
+            Field::GcBytesAge => "gc_bytes_age",
+            Field::RangeKeyCount => "range_key_count",
+            Field::RangeKeyBytes => "range_key_bytes",
+            Field::RangeValCount => "range_val_count",
+            Field::RangeValBytes => "range_val_bytes",
         }
     }
 }

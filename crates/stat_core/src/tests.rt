@@ -378,7 +378,7 @@ fn intents_age(rt: HostRuntime) -> Result<(), Fail> {
     assert_eq!(rt; age(&rt, &mut stats, 10 * SECOND), Ok(()));
     assert_eq!(rt; stats.intent_age(), 100);
     let text = format!(in rt.alloc(); "{overflow}")?;
-    assert_eq!(rt; text.as_str(), "IntentAge would pass its bound");
+    assert_eq!(rt; text.as_str(), "intent_age would pass its bound");
     Ok(())
 }
 
