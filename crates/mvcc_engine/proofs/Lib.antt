@@ -1,0 +1,10 @@
+-- What each module of lemmas speaks of.
+pub mod SpelledLaws
+pub mod VersionLaws
+pub mod Search
+pub mod ChangeLaws
+pub mod GroupLaws
+pub mod RuleLaws
+pub mod KeptLaws
+pub mod StepLaws
+pub mod PlanLaws

@@ -1,0 +1,104 @@
+-- A search by halves finds the place where a test fails first.
+use Rattle.std.specs.Prelude.{◌≡◌, ◌≢◌, ℕ, ◌<◌, ◌≤◌, Bool, true, false, List, [], ◌∷◌, length, take, drop, IfSome}
+use Rattle.std.specs.List.{AllByRecursion, AllWithin}
+use Rattle.std.specs.List.Sorted.{IsStrictlySortedBy, IsPartitionedBy, IsPartitionPoint}
+use Rattle.std.specs.declared.cmp.Ordering.TheVariants.{Less, Equal, Greater}
+use Rattle.std.specs.declared.cmp.Ordering.{Ordering}
+use Rattle.std.specs.Ordering.{is_lt, match_ordering}
+use Rattle.std.proofs.Common.{zero, suc, refl, sym, ◌∙◌, subst, arith, get_or}
+use Rattle.mvcc_key.specs.Lists.{first}
+use Rattle.mvcc_key.specs.Order.{Timestamp, Key, time_cmp, key_cmp, is_before, is_no_time}
+use Rattle.mvcc_key.specs.History.{Version, version_cmp}
+use Rattle.mvcc_key.proofs.OrderLaws.{time_cmp-total, key_cmp-total, key_cmp-IsAntisymmetric}
+use Rattle.mvcc_engine.specs.Places.{IsPlace, is_ahead, is_of_lower_key}
+use Rattle.mvcc_engine.proofs.VersionLaws.{version_cmp-of_one}
+
+-- what passes a test at one element passes it at those before
+module _ {X : Type 0} (p : X → Bool) where
+  abbrev pub PassesBack : List X → Type 0
+  PassesBack [] = Unit {0}
+  PassesBack (x ∷ xs) = AllByRecursion (λ y. p y ≡ true → p x ≡ true) xs × PassesBack xs
+
+  passes_first : (x : X) (xs : List X) (j : ℕ) (d : X) → AllByRecursion (λ y. p y ≡ true → p x ≡ true) xs → j < length xs → p (get_or xs j d) ≡ true → p x ≡ true
+  passes_first x [] j d back within passes = absurd (omega arith)
+  passes_first x (y ∷ ys) zero d back within passes = back.0 passes
+  passes_first x (y ∷ ys) (suc j) d back within passes = passes_first x ys j d back.1 (omega arith) passes
+
+  pub partitioned : (xs : List X) → PassesBack xs → IsPartitionedBy p xs
+  partitioned [] back i j d le within passes = absurd (omega arith)
+  partitioned (x ∷ xs) back zero zero d le within passes = passes
+  partitioned (x ∷ xs) back zero (suc j) d le within passes = passes_first x xs j d back.0 (omega arith) passes
+  partitioned (x ∷ xs) back (suc i) zero d le within passes = absurd (omega arith)
+  partitioned (x ∷ xs) back (suc i) (suc j) d le within passes = partitioned xs back.1 i j d (omega arith) (omega arith) passes
+
+-- a place by index is a place of a list that is cut there
+module _ (test : Version → Bool) where
+  passed_before : (xs : List Version) (i : ℕ) → i ≤ length xs → AllWithin (λ x. test x ≡ true) xs 0 i → AllByRecursion (λ v. test v ≡ true) (take i xs)
+  passed_before xs zero within passed = tt
+  passed_before [] (suc i) within passed = tt
+  passed_before (x ∷ xs) (suc i) within passed =
+      (passed 0 x (omega arith) (omega arith), passed_before xs i (omega arith) (λ k d low high. passed (suc k) d (omega arith) (omega arith)))
+
+  failed_at : (xs : List Version) (i : ℕ) → AllWithin (λ x. test x ≡ false) xs i (length xs) → IfSome (first (drop i xs)) (λ v. test v ≡ false)
+  failed_at [] zero failed = tt
+  failed_at [] (suc i) failed = tt
+  failed_at (x ∷ xs) zero failed = failed 0 x (omega arith) (omega arith)
+  failed_at (x ∷ xs) (suc i) failed = failed_at xs i (λ k d low high. failed (suc k) d (omega arith) (omega arith))
+
+  pub IsPlace-from : (xs : List Version) (i : ℕ) → i ≤ length xs → IsPartitionPoint (λ x. test x ≡ true) (λ x. test x ≡ false) xs i → IsPlace test xs i
+  IsPlace-from xs i within point = record {
+    within = within;
+    passed = passed_before xs i within point.0;
+    failed = failed_at xs i point.1;
+  }
+
+  -- a test that passes back along the order of versions does so along a list in order
+  pub passes_back : ((v w : Version) → is_no_time v.ts ≡ false → is_no_time w.ts ≡ false → version_cmp v w ≡ Less → test w ≡ true → test v ≡ true)
+      → (xs : List Version) → AllByRecursion (λ v. is_no_time v.ts ≡ false) xs → IsStrictlySortedBy version_cmp xs → PassesBack (λ x. test x) xs
+  unfolding IsStrictlySortedBy
+  passes_back along [] timed sorted = tt
+  passes_back along (x ∷ xs) timed sorted = (each xs timed.1 sorted.0, passes_back along xs timed.1 sorted.1)
+    where
+      each : (ys : List Version) → AllByRecursion (λ v. is_no_time v.ts ≡ false) ys → AllByRecursion (λ w. version_cmp x w ≡ Less) ys
+          → AllByRecursion (λ y. test y ≡ true → test x ≡ true) ys
+      each [] timed' less = tt
+      each (y ∷ ys) timed' less = (along x y timed.0 timed'.0 less.0, each ys timed'.1 less.1)
+
+less_of : (o : Ordering) → is_lt o ≡ true → o ≡ Less
+less_of Less h = refl
+less_of Equal h = cc
+less_of Greater h = cc
+
+-- a version before another has no higher key
+key_before : (v w : Version) (o : Ordering) → key_cmp v.key w.key ≡ o → version_cmp v w ≡ Less → key_cmp v.key w.key ≢ Greater
+key_before v w o is less higher = let above : version_cmp v w ≡ Greater = rw higher refl in cc
+
+-- what is before a version of a lower key is of a lower key
+pub lower_back : (key : Key) (v w : Version) → is_no_time v.ts ≡ false → is_no_time w.ts ≡ false → version_cmp v w ≡ Less → is_of_lower_key key w ≡ true → is_of_lower_key key v ≡ true
+lower_back key v w timed timed' less lower = by (key_cmp v.key w.key) refl (less_of (key_cmp w.key key) lower)
+  where
+    by : (o : Ordering) → key_cmp v.key w.key ≡ o → key_cmp w.key key ≡ Less → is_lt (key_cmp v.key key) ≡ true
+    by Less is low = let e : key_cmp v.key key ≡ Less = key_cmp-total.trans v.key w.key key is low in rw e refl
+    by Equal is low = let e : key_cmp v.key key ≡ Less = key_cmp-total.congr v.key w.key key is ∙ low in rw e refl
+    by Greater is low = absurd (key_before v w Greater is less is)
+
+-- what is before a version that stands ahead of a read stands ahead of it
+pub ahead_back : (key : Key) (ts : Timestamp) (v w : Version) → is_no_time v.ts ≡ false → is_no_time w.ts ≡ false → version_cmp v w ≡ Less → is_ahead key ts w ≡ true → is_ahead key ts v ≡ true
+ahead_back key ts v w timed timed' less ahead = by (key_cmp v.key w.key) (key_cmp w.key key) refl refl ahead
+  where
+    newer : key_cmp v.key w.key ≡ Equal → time_cmp w.ts v.ts ≡ Less
+    newer same = sym (version_cmp-of_one v w timed timed' same) ∙ less
+
+    is_newer : is_lt (time_cmp ts w.ts) ≡ true → time_cmp w.ts v.ts ≡ Less → is_lt (time_cmp ts v.ts) ≡ true
+    is_newer first second =
+        let e : time_cmp ts v.ts ≡ Less = time_cmp-total.trans ts w.ts v.ts (less_of (time_cmp ts w.ts) first) second in rw e refl
+
+    by : (o p : Ordering) → key_cmp v.key w.key ≡ o → key_cmp w.key key ≡ p → match_ordering p true (is_before ts w.ts) false ≡ true → is_ahead key ts v ≡ true
+    by Less Less is low passes = let e : key_cmp v.key key ≡ Less = key_cmp-total.trans v.key w.key key is low in rw e refl
+    by Less Equal is low passes =
+        let e : key_cmp v.key key ≡ Less = subst (λ k. key_cmp v.key k ≡ Less) (key_cmp-IsAntisymmetric w.key key low) is in rw e refl
+    by Less Greater is low passes = cc
+    by Equal Less is low passes = let e : key_cmp v.key key ≡ Less = key_cmp-total.congr v.key w.key key is ∙ low in rw e refl
+    by Equal Equal is low passes = let e : key_cmp v.key key ≡ Equal = key_cmp-total.congr v.key w.key key is ∙ low in rw e (is_newer passes (newer is))
+    by Equal Greater is low passes = cc
+    by Greater p is low passes = absurd (key_before v w Greater is less is)

@@ -1,0 +1,10 @@
+pub mod StoredPairs
+pub mod Read
+pub mod Write
+pub mod Step
+pub mod Places
+pub mod Spelled
+pub mod Change
+pub mod Kept
+pub mod Seen
+pub mod Plan

@@ -1,0 +1,45 @@
+//! By how much a version on top of the newest one of its key changes the statistics.
+ghost use Rattle.std.specs.Prelude.{◌≡◌, ◌≤◌, ◌^◌, IfSome, map, pos};
+ghost use Rattle.std.specs.Option.{option_map};
+ghost use Rattle.mvcc_key.specs.Field.{Field};
+ghost use Rattle.stat_core.specs.ComputeStats.{field, key_sums};
+ghost use Rattle.stat_core.specs.Limits.{IsInLimits};
+ghost use Rattle.stat_core.specs.Seen as shapes;
+ghost use Rattle.stat_core.specs.Seen.{number};
+ghost use Rattle.mvcc_engine.specs.Change.{change_by, shape_of_key};
+ghost use Rattle.mvcc_engine.specs.Kept.{IsKept};
+
+use crate::version::StoredVersion;
+use stat_core::{Group, GroupRef, VersionShape};
+
+/// By how much the statistics at a moment change where the version comes on top of the newest one of its key. Only these two
+/// are looked at, however many versions the key has.
+pub fn change_of(version: &StoredVersion, newest: Option<&StoredVersion>, now: u64) -> Group
+    requires version { IsKept now version.now }
+    requires newest { IfSome newest (λ v. IsKept now v.now) }
+    ensures { (f : Field) → number f result ≡ change_by now version.now (option_map (λ v. v.now) newest.entry) f }
+{
+    let key_len = version.key().len() as u64;
+    let Some(newest) = newest else {
+        return group_of_key(key_len, &[version.shape()], now);
+    };
+    let before = group_of_key(key_len, &[newest.shape()], now);
+    let after = group_of_key(key_len, &[version.shape(), newest.shape()], now);
+    after.difference(&before)
+}
+
+/// What a key with these versions alone adds.
+fn group_of_key(key_len: u64, versions: &[VersionShape], now: u64) -> Group
+    requires { IsInLimits (shape_of_key key_len (map shapes.version_of versions.now)) }
+    ensures sums { (f : Field) → number f result ≡ pos (field f (key_sums now (shape_of_key key_len (map shapes.version_of versions.now)))) }
+    ensures within { (f : Field) → field f (key_sums now (shape_of_key key_len (map shapes.version_of versions.now))) ≤ 2 ^ 121 }
+{
+    let group = GroupRef {
+        key_len,
+        record_len: 0,
+        intent: None,
+        versions,
+        stack: &[],
+    };
+    group.stats(now)
+}

@@ -1,0 +1,93 @@
+//! A write before it is carried out: what stands in its way, and what it comes to.
+ghost use Rattle.std.specs.Prelude.{◌≡◌, ◌≤◌, IfSome, OnOk, IfErr, Ok, false, true, length};
+ghost use Rattle.std.specs.Option.{option_map};
+ghost use Rattle.mvcc_key.specs.Order.{is_before, is_no_time};
+ghost use Rattle.mvcc_key.specs.History as history;
+ghost use Rattle.mvcc_key.specs.Items.{version_item};
+ghost use Rattle.mvcc_key.specs.Seen.{time_of};
+ghost use Rattle.mvcc_value.specs.Seen.{seen_body};
+ghost use Rattle.mvcc_engine.specs.Seen.{Tells, refusal_of};
+ghost use Rattle.mvcc_engine.specs.Write.{checked, data_length, is_present, past_newest};
+
+use crate::refusal::Refusal;
+use crate::version::StoredVersion;
+use mvcc_key::Timestamp;
+use mvcc_value::Body;
+use stat_core::Stats;
+
+/// A write that is not refused.
+#[derive(Drop)]
+pub struct Planned {
+    /// The version that it adds.
+    pub version: StoredVersion,
+    /// Where the versions of its key begin.
+    pub place: usize,
+    /// The statistics after it.
+    pub stats: Stats,
+    /// Whether a value was there before.
+    pub was_there: bool,
+}
+
+/// The most bytes of a key.
+const MAX_KEY_LEN: usize = 4_096;
+
+/// The most bytes of data of a value.
+const MAX_DATA_LEN: usize = 1_048_576;
+
+/// Whether key, value and timestamp are what they must be.
+pub fn check(key: &[u8], body: Body<'_>, ts: Timestamp) -> Result<(), Refusal>
+    ensures ok { OnOk result (checked key.now (time_of ts) (seen_body body.entry) ≡ Ok (seen_body body.entry)) }
+    ensures timed { OnOk result (is_no_time (time_of ts) ≡ false) }
+    ensures key { OnOk result (length key.now ≤ 4096) }
+    ensures data { OnOk result (data_length (seen_body body.entry) ≤ 1048576) }
+    ensures err { IfErr result (λ why. Tells (refusal_of why) (checked key.now (time_of ts) (seen_body body.entry))) }
+{
+    let data = data_len(body);
+    if key.is_empty() {
+        Err(Refusal::EmptyKey)
+    } else if key.len() > MAX_KEY_LEN {
+        Err(Refusal::KeyTooLong(key.len() as u64))
+    } else if data > MAX_DATA_LEN {
+        Err(Refusal::ValueTooLong(data as u64))
+    } else if ts == Timestamp::NONE {
+        Err(Refusal::BadTimestamp)
+    } else {
+        Ok(())
+    }
+}
+
+/// How many bytes of data a value has that is bytes.
+fn data_len(body: Body<'_>) -> usize
+    ensures { result ≡ data_length (seen_body body.entry) }
+{
+    match body {
+        Body::Deletion | Body::Int(_) => 0,
+        Body::Bytes(bytes) => bytes.len(),
+    }
+}
+
+/// Whether the newest version of a key, where there is one, is older than a write.
+pub fn past(newest: Option<&StoredVersion>, ts: Timestamp) -> Result<(), Refusal>
+    ensures ok { OnOk result ((body : history.Body) → past_newest (time_of ts) (option_map (λ v. version_item v.now) newest.entry) body ≡ Ok body) }
+    ensures older { OnOk result (IfSome newest.entry (λ v. is_before v.now.ts (time_of ts) ≡ true)) }
+    ensures err { IfErr result (λ why. (body : history.Body) → Tells (refusal_of why) (past_newest (time_of ts) (option_map (λ v. version_item v.now) newest.entry) body)) }
+{
+    let Some(newest) = newest else {
+        return Ok(());
+    };
+    if newest.is_before(ts) {
+        Ok(())
+    } else {
+        Err(Refusal::TooOld(newest.ts()))
+    }
+}
+
+/// Whether the newest version of a key is a value, and no deletion.
+pub fn is_value(newest: Option<&StoredVersion>) -> bool
+    ensures { result ≡ is_present (option_map (λ v. version_item v.now) newest.entry) }
+{
+    match newest {
+        Some(version) => !matches!(version.body(), Body::Deletion),
+        None => false,
+    }
+}
