@@ -1,23 +1,29 @@
 -- Scripts and what a run writes for them, computed from the definitions.
-use Rattle.std.specs.Prelude.{◌≡◌, [], ◌∷◌, codes, refl, ⊤}
+use Rattle.std.specs.Prelude.{◌≡◌, [], ◌∷◌, Some, None, true, codes, refl, ⊤}
 use Rattle.std.specs.Fmt.{digits}
 use Rattle.mvcc_key.specs.Items.{items}
-use Rattle.script_run.specs.Read.{get}
-use Rattle.script_run.specs.Write.{add, put}
-use Rattle.script_run.specs.Step.{step}
+use Rattle.mvcc_key.specs.Fragments.{fragments}
+use Rattle.mvcc_value.specs.Encoding.{varint, value_bytes}
+use Rattle.stat_core.specs.DeadSince.{dead_since}
+use Rattle.stat_core.specs.ComputeStats.{overflowing, key_sums, compute_stats}
+use Rattle.mvcc_engine.specs.StoredPairs.{stored_pairs}
+use Rattle.mvcc_engine.specs.Read.{get}
+use Rattle.mvcc_engine.specs.Write.{write}
+use Rattle.mvcc_engine.specs.Step.{statistics, step}
 use Rattle.script_run.specs.Forms as forms
 use Rattle.script_run.specs.Forms.{pass, number_up_to, nanos, wall}
-use Rattle.script_run.specs.Words.{words, are_only, value_of}
+use Rattle.script_run.specs.Words.{words, has, are_only, value_of}
 use Rattle.script_run.specs.Grammar as grammar
-use Rattle.script_run.specs.Grammar.{command, parse_words, parse}
+use Rattle.script_run.specs.Grammar.{Del, Age, Stats, command, parse_words, parse}
+use Rattle.script_run.specs.Statistics.{field_text, statistics_line}
 use Rattle.script_run.specs.Text as text
 use Rattle.script_run.specs.Text.{escaped_byte, quoted, get_line, refusal, reason, show}
-use Rattle.script_run.specs.CommandLine.{invocation}
+use Rattle.script_run.specs.CommandLine.{invocation, given_options, in_range, options_of, run_options}
 use Rattle.script_run.specs.Output.{without_return, carry_out, output_from, lines, script_output, output, whole_part}
 
 -- what an example unfolds
 unfoldable pub on_literals : ⊤
-unfolding digits items get add put step pass forms.text number_up_to nanos wall forms.time words are_only value_of grammar.put grammar.get command parse_words parse escaped_byte quoted text.time text.value get_line refusal reason show invocation without_return carry_out output_from lines script_output output whole_part
+unfolding digits items fragments varint value_bytes dead_since overflowing key_sums compute_stats stored_pairs get write statistics step pass forms.text number_up_to nanos wall forms.time words has are_only value_of grammar.put grammar.get grammar.del grammar.age grammar.stats command parse_words parse escaped_byte quoted text.time text.value get_line refusal reason field_text statistics_line show invocation given_options in_range options_of run_options without_return carry_out output_from lines script_output output whole_part
 on_literals = tt
 
 empty_script : output (codes "run" ∷ []) [] ≡ []
@@ -61,3 +67,45 @@ usage = refl
 whole : whole_part (codes "put\nget") ≡ codes "put\n"
 unfolding on_literals
 whole = refl
+
+deletions : parse (codes "del k=a ts=1,2") ≡ Some (Del (codes "a") (record { wall = 1000000000; logical = 2 }))
+unfolding on_literals
+deletions = refl
+
+moments : parse (codes "age now=0.9") ≡ Some (Age 900000000)
+unfolding on_literals
+moments = refl
+
+moments_without_counter : parse (codes "age now=5,0") ≡ None
+unfolding on_literals
+moments_without_counter = refl
+
+statistics_asked_for : parse (codes "stats\t") ≡ Some Stats
+unfolding on_literals
+statistics_asked_for = refl
+
+deleted : output (codes "run" ∷ []) (codes "put k=a ts=1 v=abc\ndel k=a ts=3\nage now=10\nage now=9\nget k=a ts=3\nstats\n")
+    ≡ codes "ok\ndel: found=true\nok\nerror: MomentTooEarly latest=10000000000\nget: \"a\" -> <no data>\nstats: key_count=1 key_bytes=26 val_count=2 val_bytes=8 live_count=0 live_bytes=0 intent_count=0 intent_bytes=0 intent_age=0 gc_bytes_age=238 range_key_count=0 range_key_bytes=0 range_val_count=0 range_val_bytes=0 last_update_nanos=10000000000\n"
+unfolding on_literals
+deleted = refl
+
+bounded : output (codes "run" ∷ codes "--stats" ∷ codes "--count-max" ∷ codes "13" ∷ []) (codes "put k=a ts=1 v=abc\n")
+    ≡ codes "error: CountOverflow field=key_bytes\nstats: key_count=0 key_bytes=0 val_count=0 val_bytes=0 live_count=0 live_bytes=0 intent_count=0 intent_bytes=0 intent_age=0 gc_bytes_age=0 range_key_count=0 range_key_bytes=0 range_val_count=0 range_val_bytes=0 last_update_nanos=0\n"
+unfolding on_literals
+bounded = refl
+
+options : run_options (codes "--count-max" ∷ codes "100" ∷ codes "--stats" ∷ []) ≡ Some (record { stats = true; count_max = 100 })
+unfolding on_literals
+options = refl
+
+options_with_values : run_options (codes "--stats=" ∷ []) ≡ None
+unfolding on_literals
+options_with_values = refl
+
+options_that_wait : run_options (codes "--count-max" ∷ codes "--stats" ∷ []) ≡ None
+unfolding on_literals
+options_that_wait = refl
+
+digits_of_options : run_options (codes "--count-max=000000000000000000001" ∷ []) ≡ None
+unfolding on_literals
+digits_of_options = refl

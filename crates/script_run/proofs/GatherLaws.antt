@@ -6,7 +6,8 @@ use Rattle.std.proofs.KnownBytes.{Appends-nil, Appends-trans, starts_with_rest}
 use Rattle.std.proofs.Common.{refl, sym, ap, ◌∙◌, subst, append_assoc, append-nil, length, drop}
 use Rattle.std.proofs.Math.Seq.{take-append_seam}
 use Rattle.io_edge.specs.Writing.{AppendsBeginning}
-use Rattle.script_run.specs.Step.{State, first_state}
+use Rattle.mvcc_engine.specs.Step.{State, first_state}
+use Rattle.script_run.specs.CommandLine.{Options}
 use Rattle.script_run.specs.Output.{Carried, carry_out, text_of, lines, output_from, script_output}
 use Rattle.script_run.specs.Gathering.{Moves, Gathers, GathersBeginning}
 
@@ -17,45 +18,45 @@ pub record IsUnderWay (held held' : Option (List ℕ)) (gathered coming all : Li
   pub whole : (written ++ gathered) ++ coming ≡ all
 
 -- before the first line
-pub begun : (held : Option (List ℕ)) (gathered script : List ℕ) (state : State) → gathered ≡ [] → state ≡ first_state → IsUnderWay held held gathered (output_from state 1 (lines script)) (script_output script)
+pub begun : (options : Options) (held : Option (List ℕ)) (gathered script : List ℕ) (state : State) → gathered ≡ [] → state ≡ first_state options.count_max → IsUnderWay held held gathered (output_from options.stats state 1 (lines script)) (script_output options script)
 unfolding script_output
-begun held gathered script state none first = record { written = []; appended = Appends-nil held; whole = rw (none, first) refl }
+begun options held gathered script state none first = record { written = []; appended = Appends-nil held; whole = rw (none, first) refl }
 
 -- the text of a line and of the lines behind it
-output_from-line : (state : State) (n : ℕ) (line : List ℕ) (rest : List (List ℕ))
-    → output_from state n (line ∷ rest) ≡ text_of (carry_out state n line) ++ output_from (carry_out state n line).state (n + 1) rest
+output_from-line : (options : Options) (state : State) (n : ℕ) (line : List ℕ) (rest : List (List ℕ))
+    → output_from options.stats state n (line ∷ rest) ≡ text_of options.stats (carry_out state n line) ++ output_from options.stats (carry_out state n line).state (n + 1) rest
 unfolding output_from
-output_from-line state n line rest = refl
+output_from-line options state n line rest = refl
 
 -- one line more
-pub one_more : (held held' held'' : Option (List ℕ)) (text text' text'' script rest behind line : List ℕ) (state state' : State) (n : ℕ)
-    → IsUnderWay held held' text (output_from state n (lines rest)) (script_output script) → lines rest ≡ line ∷ lines behind → state' ≡ (carry_out state n line).state
-    → text' ≡ text ++ text_of (carry_out state n line) → Moves held' held'' text' text''
-    → IsUnderWay held held'' text'' (output_from state' (n + 1) (lines behind)) (script_output script)
-one_more held held' held'' text text' text'' script rest behind line state state' n so_far is after shown moved =
+pub one_more : (options : Options) (held held' held'' : Option (List ℕ)) (text text' text'' script rest behind line : List ℕ) (state state' : State) (n : ℕ)
+    → IsUnderWay held held' text (output_from options.stats state n (lines rest)) (script_output options script) → lines rest ≡ line ∷ lines behind → state' ≡ (carry_out state n line).state
+    → text' ≡ text ++ text_of options.stats (carry_out state n line) → Moves held' held'' text' text''
+    → IsUnderWay held held'' text'' (output_from options.stats state' (n + 1) (lines behind)) (script_output options script)
+one_more options held held' held'' text text' text'' script rest behind line state state' n so_far is after shown moved =
     let c : Carried = carry_out state n line in
-    let later : List ℕ = output_from c.state (n + 1) (lines behind) in
-    let coming : output_from state n (lines rest) ≡ text_of c ++ later = ap (output_from state n) is ∙ output_from-line state n line (lines behind) in
-    let all : (so_far.written ++ text) ++ (text_of c ++ later) ≡ script_output script = ap (λ l. (so_far.written ++ text) ++ l) (sym coming) ∙ so_far.whole in
+    let later : List ℕ = output_from options.stats c.state (n + 1) (lines behind) in
+    let coming : output_from options.stats state n (lines rest) ≡ text_of options.stats c ++ later = ap (output_from options.stats state n) is ∙ output_from-line options state n line (lines behind) in
+    let all : (so_far.written ++ text) ++ (text_of options.stats c ++ later) ≡ script_output options script = ap (λ l. (so_far.written ++ text) ++ l) (sym coming) ∙ so_far.whole in
     record {
       written = so_far.written ++ moved.part;
       appended = Appends-trans held held' held'' so_far.written moved.part so_far.appended moved.appended;
       whole =
-          ap (λ s. ((so_far.written ++ moved.part) ++ text'') ++ output_from s (n + 1) (lines behind)) after
+          ap (λ s. ((so_far.written ++ moved.part) ++ text'') ++ output_from options.stats s (n + 1) (lines behind)) after
           ∙ ap (λ l. l ++ later) (append_assoc so_far.written moved.part text'')
           ∙ ap (λ l. (so_far.written ++ l) ++ later) (sym moved.whole)
           ∙ ap (λ l. (so_far.written ++ l) ++ later) shown
-          ∙ ap (λ l. l ++ later) (sym (append_assoc so_far.written text (text_of c)))
-          ∙ append_assoc (so_far.written ++ text) (text_of c) later
+          ∙ ap (λ l. l ++ later) (sym (append_assoc so_far.written text (text_of options.stats c)))
+          ∙ append_assoc (so_far.written ++ text) (text_of options.stats c) later
           ∙ all;
     }
 
 -- behind the last line all is written or gathered
-pub all_gathered : (held held' : Option (List ℕ)) (text script rest : List ℕ) (state : State) (n : ℕ)
-    → IsUnderWay held held' text (output_from state n (lines rest)) (script_output script) → rest ≡ [] → Gathers held held' text (script_output script)
+pub all_gathered : (options : Options) (held held' : Option (List ℕ)) (text script rest : List ℕ) (state : State) (n : ℕ)
+    → IsUnderWay held held' text (output_from options.stats state n (lines rest)) (script_output options script) → rest ≡ [] → Gathers held held' text (script_output options script)
 unfolding output_from lines
-all_gathered held held' text script rest state n so_far none =
-    let nothing : output_from state n (lines rest) ≡ [] = rw none refl in
+all_gathered options held held' text script rest state n so_far none =
+    let nothing : output_from options.stats state n (lines rest) ≡ [] = rw none refl in
     record {
       written = so_far.written;
       appended = so_far.appended;
@@ -117,8 +118,8 @@ written_beginning_part held held' held'' text all gathered failed =
     written_behind held held' held'' gathered.written text gathered.rest all gathered.appended gathered.whole failed
 
 -- the text to come begins with that of the first line
-pub as_line : (held held' : Option (List ℕ)) (text script rest behind line : List ℕ) (state : State) (n : ℕ)
-    → IsUnderWay held held' text (output_from state n (lines rest)) (script_output script) → lines rest ≡ line ∷ lines behind
-    → IsUnderWay held held' text (text_of (carry_out state n line) ++ output_from (carry_out state n line).state (n + 1) (lines behind)) (script_output script)
-as_line held held' text script rest behind line state n so_far is =
-    subst (λ l. IsUnderWay held held' text l (script_output script)) (ap (output_from state n) is ∙ output_from-line state n line (lines behind)) so_far
+pub as_line : (options : Options) (held held' : Option (List ℕ)) (text script rest behind line : List ℕ) (state : State) (n : ℕ)
+    → IsUnderWay held held' text (output_from options.stats state n (lines rest)) (script_output options script) → lines rest ≡ line ∷ lines behind
+    → IsUnderWay held held' text (text_of options.stats (carry_out state n line) ++ output_from options.stats (carry_out state n line).state (n + 1) (lines behind)) (script_output options script)
+as_line options held held' text script rest behind line state n so_far is =
+    subst (λ l. IsUnderWay held held' text l (script_output options script)) (ap (output_from options.stats state n) is ∙ output_from-line options state n line (lines behind)) so_far

@@ -1,11 +1,9 @@
 -- What each module of lemmas speaks of.
-pub mod VersionLaws
-pub mod Search
-pub mod RuleLaws
 pub mod NumberLaws
 pub mod CutLaws
 pub mod WordLaws
 pub mod EscapeLaws
+pub mod OptionLaws
 pub mod TextLaws
 pub mod StepLaws
 pub mod LineLaws

@@ -6,11 +6,7 @@ use Rattle.std.proofs.KnownBytes.{starts_with_rest}
 use Rattle.std.proofs.Common.{refl, sym, ap, ◌∙◌, subst, arith, append_assoc, length-append, take-append-drop, inl, inr}
 use Rattle.std.proofs.Math.Seq.{take-append_seam}
 use Rattle.io_edge.specs.Writing.{AppendsBeginning}
-use Rattle.script_run.specs.CommandLine as words
-use Rattle.script_run.specs.CommandLine.{Run, invocation}
-use Rattle.script_run.specs.Seen.{invocation_of}
-use Rattle.script_run.specs.declared.command_line.Invocation.{Invocation}
-use Rattle.script_run.specs.declared.command_line.Invocation.TheVariants as said
+use Rattle.script_run.specs.CommandLine.{Options, Run, invocation}
 use Rattle.script_run.specs.Output.{output, script_output, whole_part}
 use Rattle.script_run.specs.Promise.{WritesAll, WritesWholeLines, WritesBeginning, script_max}
 use Rattle.script_run.specs.Ending.{AnswersAs, EndsAs, status_after}
@@ -30,51 +26,51 @@ longer_text held held' text rest all is begun =
     record { part = p; beginning = subst (λ l. StartsWith l p) whole (take-append_seam p (left ++ rest)); appended = begun.appended }
 
 -- a beginning of the text of its whole lines is one of the text of a script
-whole_lines_begin : (script whole : List ℕ) (held held' : Option (List ℕ)) → whole ≡ whole_part (take script_max script) → AppendsBeginning held held' (script_output whole)
-    → AppendsBeginning held held' (script_output script)
-whole_lines_begin script whole held held' is begun =
-    let more = whole_part-begins (take script_max script) (drop script_max script) in
-    let goes_on : script_output script ≡ script_output whole ++ more.0 =
-    ap script_output (sym (take-append-drop script_max script)) ∙ more.1 ∙ ap (λ w. script_output w ++ more.0) (sym is) in
-    longer_text held held' (script_output whole) more.0 (script_output script) goes_on begun
+whole_lines_begin : (options : Options) (script whole : List ℕ) (held held' : Option (List ℕ)) → whole ≡ whole_part (take script_max script) → AppendsBeginning held held' (script_output options whole)
+    → AppendsBeginning held held' (script_output options script)
+whole_lines_begin options script whole held held' is begun =
+    let more = whole_part-begins options (take script_max script) (drop script_max script) in
+    let goes_on : script_output options script ≡ script_output options whole ++ more.0 =
+    ap (script_output options) (sym (take-append-drop script_max script)) ∙ more.1 ∙ ap (λ w. script_output options w ++ more.0) (sym is) in
+    longer_text held held' (script_output options whole) more.0 (script_output options script) goes_on begun
 
 -- the answers of the whole lines of a script that is too long
-pub answered_whole_lines : {A : Type 0} (written : Result A WriteStop) (ending : Status) (script whole : List ℕ) (held held' : Option (List ℕ)) → ending ≡ status_after written status.ScriptTooLong
-    → script_max < length script → whole ≡ whole_part (take script_max script) → OnOk written (Appends held held' (script_output whole))
-    → OnErr written (AppendsBeginning held held' (script_output whole)) → AnswersAs ending script held held'
-answered_whole_lines (Ok done) ending script whole held held' ends long is all part =
-    rw ends (long, subst (λ w. Appends held held' (script_output w)) is all)
-answered_whole_lines (Err stop.WriteFault) ending script whole held held' ends long is all part = rw ends (whole_lines_begin script whole held held' is part)
-answered_whole_lines (Err stop.OutOfMemory) ending script whole held held' ends long is all part = rw ends (whole_lines_begin script whole held held' is part)
+pub answered_whole_lines : {A : Type 0} (options : Options) (written : Result A WriteStop) (ending : Status) (script whole : List ℕ) (held held' : Option (List ℕ)) → ending ≡ status_after written status.ScriptTooLong
+    → script_max < length script → whole ≡ whole_part (take script_max script) → OnOk written (Appends held held' (script_output options whole))
+    → OnErr written (AppendsBeginning held held' (script_output options whole)) → AnswersAs ending (script_output options) script held held'
+answered_whole_lines options (Ok done) ending script whole held held' ends long is all part =
+    rw ends (long, subst (λ w. Appends held held' (script_output options w)) is all)
+answered_whole_lines options (Err stop.WriteFault) ending script whole held held' ends long is all part = rw ends (whole_lines_begin options script whole held held' is part)
+answered_whole_lines options (Err stop.OutOfMemory) ending script whole held held' ends long is all part = rw ends (whole_lines_begin options script whole held held' is part)
 
 -- words that read as run say the text of the script
-output-Run : (words : List (List ℕ)) → invocation words ≡ Some Run → (script : List ℕ) → script_output script ≡ output words script
+output-Run : (options : Options) (words : List (List ℕ)) → invocation words ≡ Some (Run options) → (script : List ℕ) → script_output options script ≡ output words script
 unfolding output
-output-Run words is script = rw is refl
+output-Run options words is script = rw is refl
 
-module _ (words : List (List ℕ)) (left left' held held' : Option (List ℕ)) (is : invocation words ≡ Some Run) where
-  pub all_said : WritesAll script_output left left' held held' → WritesAll (output words) left left' held held'
+module _ (words : List (List ℕ)) (left left' held held' : Option (List ℕ)) (options : Options) (is : invocation words ≡ Some (Run options)) where
+  pub all_said : WritesAll (script_output options) left left' held held' → WritesAll (output words) left left' held held'
   all_said w = record {
     given = w.given;
     consumed = w.consumed;
     ended = w.ended;
     within = w.within;
-    appended = subst (Appends held held') (output-Run words is w.given) w.appended;
+    appended = subst (Appends held held') (output-Run options words is w.given) w.appended;
   }
 
-  pub whole_lines_said : WritesWholeLines script_output left left' held held' → WritesWholeLines (output words) left left' held held'
+  pub whole_lines_said : WritesWholeLines (script_output options) left left' held held' → WritesWholeLines (output words) left left' held held'
   whole_lines_said w = record {
     given = w.given;
     consumed = w.consumed;
     beyond = w.beyond;
-    appended = subst (Appends held held') (output-Run words is (whole_part (take script_max w.given))) w.appended;
+    appended = subst (Appends held held') (output-Run options words is (whole_part (take script_max w.given))) w.appended;
   }
 
-  pub beginning_said : WritesBeginning script_output left left' held held' → WritesBeginning (output words) left left' held held'
+  pub beginning_said : WritesBeginning (script_output options) left left' held held' → WritesBeginning (output words) left left' held held'
   beginning_said w = record {
     given = w.given;
     consumed = w.consumed;
-    appended = subst (AppendsBeginning held held') (output-Run words is w.given) w.appended;
+    appended = subst (AppendsBeginning held held') (output-Run options words is w.given) w.appended;
   }
 
 -- a source that tells its bytes gave no more than them
@@ -104,7 +100,3 @@ pub stopped_by_fault : (ending : Status) (text : List ℕ → List ℕ) (left le
 stopped_by_fault ending text left left' held held' ends (inl read) = subst (λ s. EndsAs s text left left' held held') read ends
 stopped_by_fault ending text left left' held held' ends (inr (inl write)) = subst (λ s. EndsAs s text left left' held held') write ends
 stopped_by_fault ending text left left' held held' ends (inr (inr memory)) = subst (λ s. EndsAs s text left left' held held') memory ends
-
--- there is one thing that words can say
-pub words_say_run : (said : Invocation) (read : Option words.Invocation) → Some (invocation_of said) ≡ read → read ≡ Some Run
-words_say_run said.Run read is = sym is

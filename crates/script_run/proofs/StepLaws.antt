@@ -1,55 +1,28 @@
--- What a line does to the state, and its answer.
-use Rattle.std.specs.Prelude.{◌≡◌, ℕ, List, [], ◌∷◌, ◌++◌, Option, Some, None, Result, Ok, Err, OnOk, IfSome}
-use Rattle.std.proofs.lemmas.Result.{on_ok_weaker}
-use Rattle.std.specs.Option.{option_map}
-use Rattle.std.proofs.Common.{refl, sym, ap, ◌∙◌, subst, append-nil}
-use Rattle.mvcc_key.specs.Order.{Timestamp, Key}
-use Rattle.mvcc_key.specs.History.{Body, Bytes, Version, History}
-use Rattle.mvcc_value.specs.Found.{Found}
+-- What a line does to the state, and its answers.
+use Rattle.std.specs.Prelude.{◌≡◌, ℕ, Bool, true, false, List, [], ◌∷◌, ◌++◌, cond, Option, Some, None, Result, Ok, Err, OnOk, IfSome, IsSome}
+use Rattle.std.proofs.Common.{refl, sym, ap, ◌∙◌, append-nil, append_assoc, Bor}
 use Rattle.mvcc_key.specs.Refusal.{Refusal}
-use Rattle.script_run.specs.declared.versions.PutFault.{PutFault}
-use Rattle.script_run.specs.Read.{get}
-use Rattle.script_run.specs.Write.{put}
-use Rattle.script_run.specs.Step.{State, Put, Finished, step}
+use Rattle.mvcc_engine.specs.Read.{get}
+use Rattle.mvcc_engine.specs.Step as engine
+use Rattle.mvcc_engine.specs.Step.{State, Reply, Stepped, statistics, step}
+use Rattle.mvcc_key.specs.Order.{Timestamp, Key}
+use Rattle.mvcc_value.specs.Seen.{found_of}
+use Rattle.mvcc_value.specs.declared.value.Found.{Found}
+use Rattle.std.specs.Option.{option_map, option_copied}
 use Rattle.script_run.specs.Grammar as grammar
 use Rattle.script_run.specs.Grammar.{Line, parse}
 use Rattle.script_run.specs.Text as text
-use Rattle.script_run.specs.Output.{Carried, carry_out, performed, text_of, without_return}
-use Rattle.script_run.specs.Places.{history_of}
-use Rattle.script_run.specs.Seen.{AnswersPut, AnswersStep, put_refusal}
+use Rattle.script_run.specs.Output.{Carried, carried, carry_out, or_refused, perform, performed, text_of, without_return, statistics_answer}
+use Rattle.mvcc_engine.specs.Seen.{Tells}
+use Rattle.script_run.specs.Answered.{IsAnswered, is_blank}
+use Rattle.std.proofs.lemmas.Result.{on_ok_weaker}
 
--- a state that has these versions alone
-abbrev pub state_with : List Version → State
-state_with versions = record { history = history_of versions }
+-- the text of one answer, and of the statistics behind it
+pub text_of-one : (c : Carried) (s : State) (a : text.Answer) → c ≡ record { state = s; answers = a ∷ [] } → text_of false c ≡ text.show a
+text_of-one c s a is = ap (text_of false) is ∙ append-nil (text.show a)
 
--- a put of the versions is a step of the state
-pub answers-Ok : (old new : List Version) (key : Key) (ts : Timestamp) (body : Body) (shown : State) → state_with old ≡ shown
-    → put (history_of old) key ts body ≡ Ok (history_of new) → step shown (Put key ts body) ≡ Ok (record { state = state_with new; reply = Finished })
-unfolding step
-answers-Ok old new key ts body shown same taken = rw (sym same) (rw taken refl)
-
-pub answers-Err : (why : PutFault) (told : text.Reason) (old new : List Version) (key : Key) (ts : Timestamp) (body : Body) (shown : State) → state_with old ≡ shown
-    → Some told ≡ option_map text.ByStore (put_refusal why) → AnswersPut {A = Unit {0}} (Err why) old new (put (history_of old) key ts body)
-    → AnswersStep (Some told) shown (state_with new) (step shown (Put key ts body))
-unfolding step
-answers-Err why told old new key ts body shown same tells refused = by (put_refusal why) tells refused.1
-  where
-    by : (o : Option Refusal) → Some told ≡ option_map text.ByStore o → IfSome o (λ r. put (history_of old) key ts body ≡ Err r)
-        → AnswersStep (Some told) shown (state_with new) (step shown (Put key ts body))
-    by None tells' is = cc
-    by (Some r) tells' is =
-        let same_told : text.ByStore r ≡ told = cc in
-        subst (λ t. AnswersStep (Some t) shown (state_with new) (step shown (Put key ts body))) same_told
-        (ap state_with refused.0 ∙ same, rw (sym same) (rw is refl))
-
--- the text of one answer
-pub text_of-one : (c : Carried) (s : State) (a : text.Answer) → c ≡ record { state = s; answers = a ∷ [] } → text_of c ≡ text.show a
-text_of-one c s a is = ap text_of is ∙ append-nil (text.show a)
-
--- a text with the answer behind it
-pub shown : {T E : Type 0} (r : Result T E) (old new : List ℕ) (c : Carried) (s : State) (a : text.Answer) → c ≡ record { state = s; answers = a ∷ [] }
-    → OnOk r (new ≡ old ++ text.show a) → OnOk r (new ≡ old ++ text_of c)
-shown r old new c s a is = on_ok_weaker r (λ e. e ∙ ap (λ t. old ++ t) (sym (text_of-one c s a is)))
+pub text_of-two : (c : Carried) (s : State) (a : text.Answer) → c ≡ record { state = s; answers = a ∷ [] } → text_of true c ≡ text.show a ++ text.show (statistics_answer s)
+text_of-two c s a is = ap (text_of true) is ∙ ap (λ t. text.show a ++ t) (append-nil (text.show (statistics_answer s)))
 
 -- a line without a reading
 pub carry_out-bad : (s : State) (n : ℕ) (line read : List ℕ) → read ≡ without_return line → parse read ≡ None
@@ -62,30 +35,71 @@ pub carry_out-performed : (s : State) (n : ℕ) (line read : List ℕ) (said : L
 unfolding carry_out performed
 carry_out-performed s n line read said cut is = rw (sym cut, is) refl
 
-module _ (s : State) (said : Line) where
-  -- a line that says nothing
-  pub performed-blank : said ≡ grammar.Blank → performed s said ≡ record { state = s; answers = [] }
-  unfolding performed
-  performed-blank is = rw is refl
+-- a blank line says nothing
+pub performed-blank : (s : State) (said : Line) → is_blank said ≡ true → performed s said ≡ record { state = s; answers = [] }
+unfolding performed
+performed-blank s grammar.Blank blank = refl
+performed-blank s (grammar.Put key ts value) blank = cc
+performed-blank s (grammar.Get key ts) blank = cc
+performed-blank s (grammar.Del key ts) blank = cc
+performed-blank s (grammar.Age now) blank = cc
+performed-blank s grammar.Stats blank = cc
 
-  -- a get, by what the versions find under its key
-  pub performed-get : (key sought : Key) (ts : Timestamp) (h : History) (found : Option Found) (a : text.Answer) → said ≡ grammar.Get key ts → sought ≡ key
-      → a ≡ text.Got sought found → found ≡ get h sought ts → h ≡ s.history → performed s said ≡ record { state = s; answers = a ∷ [] }
-  unfolding performed step
-  performed-get key sought ts h found a is same shown_as found_is kept = rw (is, shown_as, found_is, kept, same) refl
+-- no refusal is none
+nothing : {P : Type 0} → IsSome {T = Refusal} None → P
+nothing some = cc
 
-  -- a put that is taken
-  pub performed-put : (key put_key value put_value : List ℕ) (ts : Timestamp) (new : State) → said ≡ grammar.Put key ts (Bytes value) → put_key ≡ key → put_value ≡ value
-      → AnswersStep None s new (step s (Put put_key ts (Bytes put_value))) → performed s said ≡ record { state = new; answers = text.Accepted ∷ [] }
+-- what a command comes to, by what its step answers
+module _ {T E : Type 0} (r : Result T E) (old new : List ℕ) (s s' : State) (said : Line) (shown : Reply → List text.Answer) (answer : Result Stepped Refusal)
+    (is : perform s said ≡ carried shown answer) where
+  -- a step that is taken
+  performed-taken : (reply : Reply) → answer ≡ Ok (record { state = s'; reply = reply }) → performed s said ≡ record { state = s'; answers = shown reply }
   unfolding performed
-  performed-put key put_key value put_value ts new is same same_value taken = rw (is, sym same, sym same_value) (rw taken refl)
+  performed-taken reply taken = ap (or_refused s) (is ∙ ap (carried shown) taken)
 
-  -- a put that is refused
-  pub performed-refused : (key put_key value put_value : List ℕ) (ts : Timestamp) (why : text.Reason) (new : State) → said ≡ grammar.Put key ts (Bytes value)
-      → put_key ≡ key → put_value ≡ value → AnswersStep (Some why) s new (step s (Put put_key ts (Bytes put_value)))
-      → performed s said ≡ record { state = new; answers = text.Refused why ∷ [] }
+  pub taken : (reply : Reply) (a : text.Answer) → answer ≡ Ok (record { state = s'; reply = reply }) → shown reply ≡ a ∷ [] → OnOk r (new ≡ old ++ text.show a)
+      → OnOk r (IsAnswered (performed s said) s' old new)
+  taken reply a took one appended =
+      on_ok_weaker r (λ e. record { answer = a; carried = performed-taken reply took ∙ ap (λ l. record { state = s'; answers = l }) one; shown = e }) appended
+
+  -- a step that is refused
+  performed-refused : (why : Refusal) → answer ≡ Err why → performed s said ≡ record { state = s; answers = text.Refused (text.ByStore why) ∷ [] }
   unfolding performed
-  performed-refused key put_key value put_value ts (text.ByStore why) new is same same_value refused =
-      rw (is, sym same, sym same_value)
-      (rw refused.1 (ap (λ t. record { state = t; answers = text.Refused (text.ByStore why) ∷ [] }) (sym refused.0)))
-  performed-refused key put_key value put_value ts (text.BadLine k) new is same same_value refused = absurd refused
+  performed-refused why denied = ap (or_refused s) (is ∙ ap (carried shown) denied)
+
+  pub refused : (o : Option Refusal) → OnOk r (IfSome o (λ why. new ≡ old ++ text.show (text.Refused (text.ByStore why)))) → OnOk r (IsSome o) → s' ≡ s → Tells o answer
+      → OnOk r (IsAnswered (performed s said) s' old new)
+  refused None appended told same denied = on_ok_weaker r nothing told
+  refused (Some why) appended told same denied =
+      on_ok_weaker r
+      (λ e. record {
+        answer = text.Refused (text.ByStore why);
+        carried = performed-refused why denied ∙ ap (λ t. record { state = t; answers = text.Refused (text.ByStore why) ∷ [] }) (sym same);
+        shown = e;
+      })
+      appended
+
+-- the text of a line with one answer, and of the statistics behind it where they are wanted
+pub answered : (wanted : Bool) (c : Carried) (s : State) (a : text.Answer) (old mid new : List ℕ) → c ≡ record { state = s; answers = a ∷ [] } → mid ≡ old ++ text.show a
+    → new ≡ mid ++ cond wanted (text.show (statistics_answer s)) [] → new ≡ old ++ text_of wanted c
+answered true c s a old mid new is one two =
+    two ∙ ap (λ t. t ++ text.show (statistics_answer s)) one ∙ append_assoc old (text.show a) (text.show (statistics_answer s)) ∙ ap (λ t. old ++ t) (sym (text_of-two c s a is))
+answered false c s a old mid new is one two = two ∙ append-nil mid ∙ one ∙ ap (λ t. old ++ t) (sym (text_of-one c s a is))
+
+-- the text of a line without an answer
+pub unanswered : (wanted : Bool) (c : Carried) (s : State) (old : List ℕ) → c ≡ record { state = s; answers = [] } → old ≡ old ++ text_of wanted c
+unanswered wanted c s old is = sym (append-nil old) ∙ ap (λ t. old ++ t) (sym (ap (text_of wanted) is))
+
+-- a get and a look at the statistics are always taken, and leave the state
+pub step-get : (s : State) (key : Key) (ts : Timestamp) → step s (engine.Get key ts) ≡ Ok (record { state = s; reply = engine.Got (get s.history key ts) })
+unfolding step
+step-get s key ts = refl
+
+pub step-stats : (s : State) → step s engine.Stats ≡ Ok (record { state = s; reply = engine.Statistics (statistics s.last s.history) s.last })
+unfolding step
+step-stats s = refl
+
+-- a row that is lent
+pub lent : (o : Option (Bor Found)) → option_map (λ f. found_of f.now) o ≡ option_map found_of (option_copied o)
+lent None = refl
+lent (Some f) = refl

@@ -10,6 +10,10 @@ use Rattle.script_run.specs.Promise.{Extends}
 pub Extends-same : (old new : List ℕ) → new ≡ old → Extends old new
 Extends-same old new same = ([], same ∙ sym (append-nil old))
 
+-- and what goes on from more than it
+pub Extends-behind : (old mid new more : List ℕ) → mid ≡ old ++ more → Extends mid new → Extends old new
+Extends-behind old mid new more is (rest, grown) = (more ++ rest, grown ∙ ap (λ l. l ++ rest) is ∙ append_assoc old more rest)
+
 -- what holds anyhow holds of an error
 pub on_err : {T E : Type 0} {P : Type 0} (r : Result T E) → P → OnErr r P
 on_err (Ok x) p = tt

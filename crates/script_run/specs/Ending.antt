@@ -2,7 +2,7 @@
 use Rattle.std.specs.Prelude.{ℕ, ◌<◌, ◌≤◌, List, length, take, Option, Result, Ok, Err}
 use Rattle.std.specs.Io.KnownBytes.{Appends}
 use Rattle.io_edge.specs.Writing.{AppendsBeginning}
-use Rattle.script_run.specs.Output.{script_output, whole_part}
+use Rattle.script_run.specs.Output.{whole_part}
 use Rattle.script_run.specs.Promise.{WritesAll, WritesWholeLines, WritesBeginning, script_max}
 use Rattle.script_run.specs.declared.answers.WriteStop.{WriteStop}
 use Rattle.script_run.specs.declared.answers.WriteStop.TheVariants as stop
@@ -33,11 +33,11 @@ EndsAs status.WriteFault text left left' held held' = WritesBeginning text left 
 EndsAs status.ScriptTooLong text left left' held held' = WritesWholeLines text left left' held held'
 EndsAs status.OutOfMemory text left left' held held' = WritesBeginning text left left' held held'
 
--- what a script that was read got as answers
-abbrev pub AnswersAs : Status → List ℕ → Option (List ℕ) → Option (List ℕ) → Type 0
-AnswersAs status.Done script held held' = (length script ≤ script_max) × Appends held held' (script_output script)
-AnswersAs status.Usage script held held' = ⊥
-AnswersAs status.ReadFault script held held' = ⊥
-AnswersAs status.WriteFault script held held' = AppendsBeginning held held' (script_output script)
-AnswersAs status.ScriptTooLong script held held' = (script_max < length script) × Appends held held' (script_output (whole_part (take script_max script)))
-AnswersAs status.OutOfMemory script held held' = AppendsBeginning held held' (script_output script)
+-- what a script that was read got as answers, by the text that is defined for each script
+abbrev pub AnswersAs : Status → (List ℕ → List ℕ) → List ℕ → Option (List ℕ) → Option (List ℕ) → Type 0
+AnswersAs status.Done text script held held' = (length script ≤ script_max) × Appends held held' (text script)
+AnswersAs status.Usage text script held held' = ⊥
+AnswersAs status.ReadFault text script held held' = ⊥
+AnswersAs status.WriteFault text script held held' = AppendsBeginning held held' (text script)
+AnswersAs status.ScriptTooLong text script held held' = (script_max < length script) × Appends held held' (text (whole_part (take script_max script)))
+AnswersAs status.OutOfMemory text script held held' = AppendsBeginning held held' (text script)

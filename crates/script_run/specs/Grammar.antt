@@ -2,7 +2,7 @@
 use Rattle.std.specs.Prelude.{ℕ, Bool, false, List, [], ◌∷◌, map, Option, Some, None, codes, bytes_eq, ◌==◌, if◌then◌else◌}
 use Rattle.mvcc_key.specs.Order.{Timestamp, Key}
 use Rattle.mvcc_key.specs.History.{Body, Bytes}
-use Rattle.script_run.specs.Forms.{◌>>=◌, text, time}
+use Rattle.script_run.specs.Forms.{◌>>=◌, text, wall, time}
 use Rattle.script_run.specs.Words.{Word, words, word_of, only, required}
 
 -- what a line says
@@ -10,6 +10,9 @@ pub data Line : Type 0 where
   Blank : Line
   Put : (key : Key) (ts : Timestamp) (value : Body) → Line
   Get : (key : Key) (ts : Timestamp) → Line
+  Del : (key : Key) (ts : Timestamp) → Line
+  Age : (now : ℕ) → Line
+  Stats : Line
 
 -- k=TEXT
 abbrev pub key : List Word → Option Key
@@ -22,6 +25,16 @@ timestamp = required (codes "ts") time
 -- v=TEXT
 abbrev pub value : List Word → Option (List ℕ)
 value = required (codes "v") text
+
+-- now=MOMENT
+abbrev pub now : List Word → Option ℕ
+now = required (codes "now") wall
+
+-- a command without words
+abbrev pub alone : Line → List Word → Option Line
+alone line given = do
+  ws ← only [] [] given
+  Some line
 
 -- k=TEXT ts=TIME v=TEXT
 unfoldable pub put : List Word → Option Line
@@ -40,11 +53,33 @@ get given = do
   ts ← timestamp ws
   Some (Get k ts)
 
+-- k=TEXT ts=TIME
+unfoldable pub del : List Word → Option Line
+del given = do
+  ws ← only (codes "k" ∷ codes "ts" ∷ []) [] given
+  k ← key ws
+  ts ← timestamp ws
+  Some (Del k ts)
+
+-- now=MOMENT
+unfoldable pub age : List Word → Option Line
+age given = do
+  ws ← only (codes "now" ∷ []) [] given
+  n ← now ws
+  Some (Age n)
+
+-- no words
+unfoldable pub stats : List Word → Option Line
+stats = alone Stats
+
 -- the command of this name, with these words
 unfoldable pub command : List ℕ → List Word → Option Line
 command name ws =
     if bytes_eq name (codes "put") then put ws
     else if bytes_eq name (codes "get") then get ws
+    else if bytes_eq name (codes "del") then del ws
+    else if bytes_eq name (codes "age") then age ws
+    else if bytes_eq name (codes "stats") then stats ws
     else None
 
 -- the first word begins with a number sign

@@ -2,14 +2,12 @@ pub mod CommandLine
 pub mod Forms
 pub mod Words
 pub mod Grammar
+pub mod Statistics
 pub mod Text
-pub mod Read
-pub mod Write
-pub mod Step
 pub mod Output
+pub mod Answered
 pub mod Promise
 pub mod Gathering
-pub mod Places
 pub mod Seen
 pub mod SeenLine
 pub mod Ending

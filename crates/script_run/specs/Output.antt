@@ -1,14 +1,14 @@
 -- What a run writes for a script.
-use Rattle.std.specs.Prelude.{ℕ, ◌+◌, List, [], ◌∷◌, ◌++◌, Option, Some, None, Result, Ok, Err, ◌==◌, if◌then◌else◌}
+use Rattle.std.specs.Prelude.{ℕ, ◌+◌, Bool, List, [], ◌∷◌, ◌++◌, Option, Some, None, Result, Ok, Err, ◌==◌, if◌then◌else◌}
 use Rattle.std.specs.List.{flat_map}
 use Rattle.mvcc_key.specs.Lists.{is_empty}
 use Rattle.mvcc_key.specs.Cutting.{pieces}
 use Rattle.mvcc_key.specs.Order.{Key}
 use Rattle.mvcc_key.specs.Refusal.{Refusal}
-use Rattle.script_run.specs.Step.{State, first_state, Command, Reply, Finished, Got, Stepped, step}
+use Rattle.mvcc_engine.specs.Step.{State, first_state, statistics, Command, Reply, Finished, WasThere, Got, Statistics, Stepped, step}
 use Rattle.script_run.specs.Grammar.{Line, parse}
 use Rattle.script_run.specs.Text.{Reason, BadLine, ByStore, Answer, show}
-use Rattle.script_run.specs.CommandLine.{Invocation, Run, invocation}
+use Rattle.script_run.specs.CommandLine.{Options, Invocation, Run, invocation}
 
 -- a line that is carried out: the state after it, and its answers
 pub record Carried : Type 0 where
@@ -18,12 +18,22 @@ pub record Carried : Type 0 where
 -- how a reply is shown; a command's own kind is the one that matters
 abbrev pub finished : Reply → List Answer
 finished Finished = Answer.Accepted ∷ []
-finished (Got found) = []
+finished reply = []
+
+-- how a deletion is shown
+abbrev pub deleted : Reply → List Answer
+deleted (WasThere there) = Answer.Deleted there ∷ []
+deleted reply = []
+
+-- how the statistics are shown
+abbrev pub statistics_shown : Reply → List Answer
+statistics_shown (Statistics sums now) = Answer.Statistics sums now ∷ []
+statistics_shown reply = []
 
 -- how a read of a key is shown
 abbrev pub got : Key → Reply → List Answer
-got key Finished = []
 got key (Got found) = Answer.Got key found ∷ []
+got key reply = []
 
 -- a command that is carried out: the state after it and how its reply is shown, or why it is refused
 abbrev pub carried : (Reply → List Answer) → Result Stepped Refusal → Result Carried Reason
@@ -35,6 +45,9 @@ abbrev pub perform : State → Line → Result Carried Reason
 perform s Line.Blank = Ok (record { state = s; answers = [] })
 perform s (Line.Put key ts value) = carried finished (step s (Command.Put key ts value))
 perform s (Line.Get key ts) = carried (got key) (step s (Command.Get key ts))
+perform s (Line.Del key ts) = carried deleted (step s (Command.Delete key ts))
+perform s (Line.Age now) = carried finished (step s (Command.Age now))
+perform s Line.Stats = carried statistics_shown (step s Command.Stats)
 
 -- a line without a reading is refused
 abbrev pub perform_read : State → ℕ → Option Line → Result Carried Reason
@@ -60,16 +73,25 @@ without_return (b ∷ c ∷ bs) = b ∷ without_return (c ∷ bs)
 unfoldable pub carry_out : State → ℕ → List ℕ → Carried
 carry_out s n bytes = or_refused s (perform_read s n (parse (without_return bytes)))
 
+-- the statistics as they stand
+abbrev pub statistics_answer : State → Answer
+statistics_answer s = Answer.Statistics (statistics s.last s.history) s.last
+
+-- where they are asked for they follow the answers of each command; a line without an answer is none
+abbrev pub with_statistics : Bool → State → List Answer → List Answer
+with_statistics wanted s [] = []
+with_statistics wanted s (a ∷ rest) = a ∷ rest ++ (if wanted then statistics_answer s ∷ [] else [])
+
 -- the text of a line's answers
-abbrev pub text_of : Carried → List ℕ
-text_of c = flat_map show c.answers
+abbrev pub text_of : Bool → Carried → List ℕ
+text_of wanted c = flat_map show (with_statistics wanted c.state c.answers)
 
 -- the text of the lines from number n on
-unfoldable pub output_from : State → ℕ → List (List ℕ) → List ℕ
-output_from s n [] = []
-output_from s n (l ∷ ls) =
+unfoldable pub output_from : Bool → State → ℕ → List (List ℕ) → List ℕ
+output_from wanted s n [] = []
+output_from wanted s n (l ∷ ls) =
     let c : Carried = carry_out s n l in
-    text_of c ++ output_from c.state (n + 1) ls
+    text_of wanted c ++ output_from wanted c.state (n + 1) ls
 
 -- the pieces without an empty one at the end
 abbrev pub without_empty_end : List (List ℕ) → List (List ℕ)
@@ -82,13 +104,13 @@ unfoldable pub lines : List ℕ → List (List ℕ)
 lines bytes = without_empty_end (pieces (λ b. b == 0x0a) bytes)
 
 -- what a run of this script writes
-unfoldable pub script_output : List ℕ → List ℕ
-script_output script = output_from first_state 1 (lines script)
+unfoldable pub script_output : Options → List ℕ → List ℕ
+script_output options script = output_from options.stats (first_state options.count_max) 1 (lines script)
 
 -- nothing is written for words without a reading
 abbrev pub output_for : Option Invocation → List ℕ → List ℕ
 output_for None script = []
-output_for (Some Run) script = script_output script
+output_for (Some (Run options)) script = script_output options script
 
 -- what the program writes for these words and this script
 unfoldable pub output : List (List ℕ) → List ℕ → List ℕ

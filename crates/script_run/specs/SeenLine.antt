@@ -33,3 +33,6 @@ abbrev pub line_of : Line → grammar.Line
 line_of line.Blank = grammar.Blank
 line_of (line.Put key ts value) = grammar.Put (cow_slice_items key) (time_of ts) (history.Bytes (cow_slice_items value))
 line_of (line.Get key ts) = grammar.Get (cow_slice_items key) (time_of ts)
+line_of (line.Del key ts) = grammar.Del (cow_slice_items key) (time_of ts)
+line_of (line.Age now) = grammar.Age now.nanos
+line_of line.Stats = grammar.Stats

@@ -1,12 +1,15 @@
 -- The texts of answers and refusals.
-use Rattle.std.specs.Prelude.{ℕ, ◌/◌, ◌+◌, ◌%◌, Bool, ◌&&◌, not, List, [], ◌∷◌, ◌++◌, Option, Some, None, nat_le, ◌==◌, codes, if◌then◌else◌}
+use Rattle.std.specs.Prelude.{ℕ, ◌/◌, ◌+◌, ◌%◌, Bool, true, false, ◌&&◌, not, List, [], ◌∷◌, ◌++◌, Option, Some, None, nat_le, ◌==◌, codes, if◌then◌else◌}
 use Rattle.std.specs.List.{flat_map}
 use Rattle.std.specs.Char.{digit_char}
 use Rattle.std.specs.Fmt.{decimal, signed_decimal}
 use Rattle.mvcc_key.specs.Order.{Timestamp, Key}
 use Rattle.mvcc_key.specs.History.{Body, Deletion, Bytes, Int}
-use Rattle.mvcc_key.specs.Refusal.{Refusal, EmptyKey, KeyTooLong, BadTimestamp, TooOld}
+use Rattle.mvcc_key.specs.Refusal.{Refusal, EmptyKey, KeyTooLong, ValueTooLong, BadTimestamp, TooOld, MomentTooEarly, CountOverflow}
 use Rattle.mvcc_value.specs.Found.{Found}
+use Rattle.stat_core.specs.ComputeStats.{Sums}
+use Rattle.stat_core.specs.Names.{field_name}
+use Rattle.script_run.specs.Statistics.{statistics_line}
 
 -- why a line is refused: by the script, or by the store
 pub data Reason : Type 0 where
@@ -17,6 +20,8 @@ pub data Reason : Type 0 where
 pub data Answer : Type 0 where
   Accepted : Answer
   Got : (key : Key) (found : Option Found) → Answer
+  Deleted : (found : Bool) → Answer
+  Statistics : (sums : Sums) (now : ℕ) → Answer
   Refused : (why : Reason) → Answer
 
 -- a byte by \x and two lower-case hexadecimal digits
@@ -68,8 +73,11 @@ get_line key (Some f) = codes "get: " ++ quoted f.key ++ codes " -> " ++ value f
 unfoldable pub refusal : Refusal → List ℕ
 refusal EmptyKey = codes "EmptyKey"
 refusal (KeyTooLong length) = codes "KeyTooLong length=" ++ decimal length
+refusal (ValueTooLong length) = codes "ValueTooLong length=" ++ decimal length
 refusal BadTimestamp = codes "BadTimestamp"
 refusal (TooOld existing) = codes "TooOld existing=" ++ time existing
+refusal (MomentTooEarly latest) = codes "MomentTooEarly latest=" ++ decimal latest
+refusal (CountOverflow field) = codes "CountOverflow field=" ++ field_name field
 refusal other = []
 
 -- why a line is refused
@@ -77,8 +85,15 @@ unfoldable pub reason : Reason → List ℕ
 reason (BadLine n) = codes "BadLine line=" ++ decimal n
 reason (ByStore why) = refusal why
 
+-- true or false
+abbrev pub truth : Bool → List ℕ
+truth true = codes "true"
+truth false = codes "false"
+
 -- the text of an answer: whole lines
 unfoldable pub show : Answer → List ℕ
 show Accepted = codes "ok\n"
 show (Got key found) = get_line key found
+show (Deleted found) = codes "del: found=" ++ truth found ++ codes "\n"
+show (Statistics sums now) = statistics_line sums now
 show (Refused why) = codes "error: " ++ reason why ++ codes "\n"

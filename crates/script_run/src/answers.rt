@@ -7,6 +7,7 @@ ghost use Rattle.script_run.specs.Output.{script_output};
 ghost use Rattle.script_run.specs.Gathering.{Gathers, Moves};
 ghost use Rattle.script_run.specs.Seen.{StopsAt};
 
+use crate::command_line::Options;
 use crate::script::first_line;
 use crate::session::Session;
 use io_edge::{Failed, Sink, write_all};
@@ -48,14 +49,19 @@ impl From<Failed> for WriteStop {
 
 /// Carries out the lines of a script one after another, and writes their answers. Where memory is wanting for a line, the
 /// answers of the lines before it are written all the same.
-pub fn write_answers<K: Sink>(alloc: Global, script: &[u8], sink: &mut K) -> Result<(), WriteStop>
-    ensures ok { OnOk result (Appends (K.held sink.old) (K.held sink.new) (script_output script.now)) }
-    ensures err { OnErr result (AppendsBeginning (K.held sink.old) (K.held sink.new) (script_output script.now)) }
+pub fn write_answers<K: Sink>(
+    alloc: Global,
+    options: Options,
+    script: &[u8],
+    sink: &mut K,
+) -> Result<(), WriteStop>
+    ensures ok { OnOk result (Appends (K.held sink.old) (K.held sink.new) (script_output options script.now)) }
+    ensures err { OnErr result (AppendsBeginning (K.held sink.old) (K.held sink.new) (script_output options script.now)) }
     ensures later { K.faults sink.old ≤ K.faults sink.new }
     ensures cause { IfErr result (λ stop. stop ≡ WriteStop.WriteFault → Rose (K.faults sink.old) (K.faults sink.new)) }
 {
     let mut text = Vec::new(alloc);
-    match gather_answers(alloc, script, &mut text, sink) {
+    match gather_answers(alloc, options, script, &mut text, sink) {
         Ok(()) => {
             write_all(sink, text.as_slice())?;
             Ok(())
@@ -71,23 +77,24 @@ pub fn write_answers<K: Sink>(alloc: Global, script: &[u8], sink: &mut K) -> Res
 /// Carries out the lines of a script, and leaves of their answers the last ones in the text, which begins empty.
 fn gather_answers<K: Sink>(
     alloc: Global,
+    options: Options,
     script: &[u8],
     text: &mut Vec<u8>,
     sink: &mut K,
 ) -> Result<(), WriteStop>
     requires { text.old.items ≡ [] }
-    ensures ok { OnOk result (Gathers (K.held sink.old) (K.held sink.new) text.new.items (script_output script.now)) }
-    ensures err { IfErr result (λ stop. StopsAt stop (K.held sink.old) (K.held sink.new) text.new.items (script_output script.now)) }
+    ensures ok { OnOk result (Gathers (K.held sink.old) (K.held sink.new) text.new.items (script_output options script.now)) }
+    ensures err { IfErr result (λ stop. StopsAt stop (K.held sink.old) (K.held sink.new) text.new.items (script_output options script.now)) }
     ensures later { K.faults sink.old ≤ K.faults sink.new }
     ensures cause { IfErr result (λ stop. stop ≡ WriteStop.WriteFault → Rose (K.faults sink.old) (K.faults sink.new)) }
 {
-    let mut session = Session::new(alloc);
+    let mut session = Session::new(alloc, options);
     let mut rest = script;
     let mut number: u64 = 0;
     while !rest.is_empty() {
         let (line, behind) = first_line(rest);
         number += 1;
-        session.carry_out(alloc, number, line, text)?;
+        session.carry_out(options, number, line, text)?;
         write_if_large(text, sink)?;
         rest = behind;
     }

@@ -52,9 +52,24 @@ pub fn time(bytes: &[u8]) -> Option<Timestamp>
     Timestamp::new(nanos, logical)
 }
 
+/// A moment: nanoseconds of wall time, below 2^63.
+#[derive(Clone, Copy, Debug)]
+pub struct WallTime {
+    pub nanos: u64,
+    ghost range: { nanos < 2 ^ 63 },
+}
+
+/// What a MOMENT says, where it is one: a time without a logical counter.
+pub fn moment(bytes: &[u8]) -> Option<WallTime>
+    ensures { option_map (λ m. m.nanos) result ≡ wall bytes.now }
+{
+    let nanos = wall(bytes)?;
+    Some(WallTime { nanos })
+}
+
 /// The nanoseconds of a time without a logical counter, where the bytes are one.
 #[tactic(auto, unfolding(crate::specs::Forms::wall))]
-pub fn wall(bytes: &[u8]) -> Option<u64>
+fn wall(bytes: &[u8]) -> Option<u64>
     ensures value { result ≡ wall bytes.now }
     ensures in_range { IfSome result (λ nanos. nanos < 2 ^ 63) }
 {

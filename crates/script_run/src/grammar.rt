@@ -5,10 +5,11 @@ ghost use Rattle.std.specs.Cow.{cow_slice_items};
 ghost use Rattle.mvcc_key.specs.Seen as key;
 ghost use Rattle.script_run.specs.Forms as forms;
 ghost use Rattle.script_run.specs.Words.{required};
-ghost use Rattle.script_run.specs.Grammar.{begins_comment, command, get, parse, put};
+ghost use Rattle.script_run.specs.Grammar.{age, begins_comment, command, del, get, parse, put, stats};
+ghost use Rattle.script_run.specs.Answered.{is_blank};
 ghost use Rattle.script_run.specs.SeenLine.{line_of, word_of};
 
-use crate::forms;
+use crate::forms::{self, WallTime};
 use crate::words::{Word, are_only, next_word, read_words, value_of};
 use mvcc_key::{OutOfMemory, Timestamp};
 use std::alloc::Global;
@@ -28,6 +29,23 @@ pub enum Line<'a> {
         key: CowSlice<'a, u8>,
         ts: Timestamp,
     },
+    Del {
+        key: CowSlice<'a, u8>,
+        ts: Timestamp,
+    },
+    Age {
+        now: WallTime,
+    },
+    Stats,
+}
+
+impl Line<'_> {
+    /// Whether it is no command.
+    pub fn is_blank(&self) -> bool
+        ensures { result ≡ is_blank (line_of self.now) }
+    {
+        matches!(self, Line::Blank)
+    }
 }
 
 /// What the line says. The first word is the name of a command, each further one a flag or `name=value`, in any order and each at
@@ -69,6 +87,12 @@ fn command<'a>(
         put(alloc, words)
     } else if name == b"get".as_slice() {
         get(alloc, words)
+    } else if name == b"del".as_slice() {
+        del(alloc, words)
+    } else if name == b"age".as_slice() {
+        Ok(age(words))
+    } else if name == b"stats".as_slice() {
+        Ok(stats(words))
     } else {
         Ok(None)
     }
@@ -111,6 +135,47 @@ fn get<'a>(alloc: Global, words: &[Word<'a>]) -> Result<Option<Line<'a>>, OutOfM
     Ok(Some(Line::Get { key, ts }))
 }
 
+/// `k=TEXT ts=TIME`
+#[tactic(auto, unfolding(crate::specs::Grammar::del))]
+fn del<'a>(alloc: Global, words: &[Word<'a>]) -> Result<Option<Line<'a>>, OutOfMemory>
+    ensures { IfOk result (λ read. option_map line_of read ≡ del (map word_of words.now)) }
+{
+    if !are_only(words, &["k", "ts"], &[]) {
+        return Ok(None);
+    }
+    let Some(key) = text(alloc, words, "k")? else {
+        return Ok(None);
+    };
+    let Some(ts) = time(words, "ts") else {
+        return Ok(None);
+    };
+    Ok(Some(Line::Del { key, ts }))
+}
+
+/// `now=MOMENT`
+#[tactic(auto, unfolding(crate::specs::Grammar::age))]
+fn age<'a>(words: &[Word<'_>]) -> Option<Line<'a>>
+    ensures { option_map line_of result ≡ age (map word_of words.now) }
+{
+    if !are_only(words, &["now"], &[]) {
+        return None;
+    }
+    let now = moment(words, "now")?;
+    Some(Line::Age { now })
+}
+
+/// No words.
+#[tactic(auto, unfolding(crate::specs::Grammar::stats))]
+fn stats<'a>(words: &[Word<'_>]) -> Option<Line<'a>>
+    ensures { option_map line_of result ≡ stats (map word_of words.now) }
+{
+    if are_only(words, &[], &[]) {
+        Some(Line::Stats)
+    } else {
+        None
+    }
+}
+
 /// The text that the word of this name writes.
 fn text<'a>(
     alloc: Global,
@@ -130,4 +195,11 @@ fn time(words: &[Word<'_>], name: &str) -> Option<Timestamp>
     ensures { option_map key.time_of result ≡ required name.now forms.time (map word_of words.now) }
 {
     forms::time(value_of(words, name)?)
+}
+
+/// The moment that the word of this name says.
+fn moment(words: &[Word<'_>], name: &str) -> Option<WallTime>
+    ensures { option_map (λ m. m.nanos) result ≡ required name.now forms.wall (map word_of words.now) }
+{
+    forms::moment(value_of(words, name)?)
 }

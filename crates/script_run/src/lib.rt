@@ -6,12 +6,13 @@ mod command_line;
 mod forms;
 mod grammar;
 mod hex;
+mod pieces;
 mod program;
 mod script;
 mod session;
+mod statistics;
 mod text;
 mod unescape;
-mod versions;
 mod words;
 
 pub use program::{Status, run};

@@ -7,9 +7,10 @@ ghost use Rattle.script_run.specs.Output.{output, script_output};
 ghost use Rattle.script_run.specs.Ending.{AnswersAs, EndsAs, number_of, status_after};
 
 use crate::answers::{WriteStop, write_answers};
-use crate::command_line::{Invocation, read_words};
+use crate::command_line::{Options, read_words};
 use crate::script::{ReadStop, SCRIPT_MAX, read_script, whole_part};
 use io_edge::{Sink, Source};
+use mvcc_key::OutOfMemory;
 use std::alloc::Global;
 use std::thread::Threads;
 
@@ -81,15 +82,21 @@ pub fn run<R: Threads + Sync, S: Source, K: Sink>(
         → ¬ Rose (S.faults source.old) (S.faults source.new) → ¬ Rose (K.faults sink.old) (K.faults sink.new)
         → (result ≡ Status.Done) ⊎ (result ≡ Status.OutOfMemory)) }
 {
-    match read_words(words) {
-        None => Status::Usage,
-        Some(Invocation::Run) => run_script(alloc, source, sink),
+    match read_words(alloc, words) {
+        Ok(Some(options)) => run_script(alloc, options, source, sink),
+        Ok(None) => Status::Usage,
+        Err(OutOfMemory) => Status::OutOfMemory,
     }
 }
 
 /// Carries out a script.
-fn run_script<S: Source, K: Sink>(alloc: Global, source: &mut S, sink: &mut K) -> Status
-    ensures ends { EndsAs result script_output (S.left source.old) (S.left source.new) (K.held sink.old) (K.held sink.new) }
+fn run_script<S: Source, K: Sink>(
+    alloc: Global,
+    options: Options,
+    source: &mut S,
+    sink: &mut K,
+) -> Status
+    ensures ends { EndsAs result (script_output options) (S.left source.old) (S.left source.new) (K.held sink.old) (K.held sink.new) }
     ensures within { TakesWithin (S.left source.old) (S.left source.new) }
     ensures read { result ≡ Status.ReadFault → Rose (S.faults source.old) (S.faults source.new) }
     ensures write { result ≡ Status.WriteFault → Rose (K.faults sink.old) (K.faults sink.new) }
@@ -97,23 +104,26 @@ fn run_script<S: Source, K: Sink>(alloc: Global, source: &mut S, sink: &mut K) -
     ensures sink_counts { K.faults sink.old ≤ K.faults sink.new }
 {
     match read_script(alloc, source) {
-        Ok(script) => answer_script(alloc, script.as_slice(), sink),
+        Ok(script) => answer_script(alloc, options, script.as_slice(), sink),
         Err(ReadStop::ReadFault) => Status::ReadFault,
         Err(ReadStop::OutOfMemory) => Status::OutOfMemory,
     }
 }
 
 /// Answers a script, or the whole lines of its first bytes where it is too long.
-fn answer_script<K: Sink>(alloc: Global, script: &[u8], sink: &mut K) -> Status
-    ensures answered { AnswersAs result script.now (K.held sink.old) (K.held sink.new) }
+fn answer_script<K: Sink>(alloc: Global, options: Options, script: &[u8], sink: &mut K) -> Status
+    ensures answered { AnswersAs result (script_output options) script.now (K.held sink.old) (K.held sink.new) }
     ensures write { result ≡ Status.WriteFault → Rose (K.faults sink.old) (K.faults sink.new) }
     ensures counts { K.faults sink.old ≤ K.faults sink.new }
 {
     if script.len() > SCRIPT_MAX {
         let whole = whole_part(script.split_at(SCRIPT_MAX).0);
-        status_after(write_answers(alloc, whole, sink), Status::ScriptTooLong)
+        status_after(
+            write_answers(alloc, options, whole, sink),
+            Status::ScriptTooLong,
+        )
     } else {
-        status_after(write_answers(alloc, script, sink), Status::Done)
+        status_after(write_answers(alloc, options, script, sink), Status::Done)
     }
 }
 

@@ -1,6 +1,7 @@
 ghost use Rattle.std.specs.Prelude.{◌≤◌};
 
 use super::*;
+use crate::command_line::read_options;
 use io_edge::{MemSink, MemSource, SureSink, SureSource};
 use std::alloc::{AllocError, Global};
 use std::test::Fail;
@@ -180,5 +181,96 @@ fn ends_that_never_fail_are_done(rt: HostRuntime) -> Result<(), Fail> {
     let status = run(&rt, rt.alloc(), &words, &mut source, &mut sink);
     assert!(rt; status == Status::Done);
     assert!(rt; status.number() == 0);
+    Ok(())
+}
+
+#[test]
+fn statistics_are_a_recount(rt: HostRuntime) -> Result<(), Fail> {
+    let cases: [(&str, &[u8], &[u8]); 6] = [
+        (
+            "run",
+            b"put k=a ts=1 v=abc\nget k=a ts=1\nstats",
+            b"ok\nget: \"a\" -> /BYTES/abc @1.000000000,0\nstats: key_count=1 key_bytes=14 val_count=1 val_bytes=8 live_count=1 live_bytes=22 intent_count=0 intent_bytes=0 intent_age=0 gc_bytes_age=0 range_key_count=0 range_key_bytes=0 range_val_count=0 range_val_bytes=0 last_update_nanos=1000000000\n",
+        ),
+        (
+            "run",
+            b"put k=a ts=1 v=abc\ndel k=a ts=3\nage now=10\nstats\nget k=a ts=4",
+            b"ok\ndel: found=true\nok\nstats: key_count=1 key_bytes=26 val_count=2 val_bytes=8 live_count=0 live_bytes=0 intent_count=0 intent_bytes=0 intent_age=0 gc_bytes_age=238 range_key_count=0 range_key_bytes=0 range_val_count=0 range_val_bytes=0 last_update_nanos=10000000000\nget: \"a\" -> <no data>\n",
+        ),
+        (
+            "run",
+            b"put k=a ts=1 v=abc\nput k=a ts=1 v=x\nstats now\nstats",
+            b"ok\nerror: TooOld existing=1.000000000,0\nerror: BadLine line=3\nstats: key_count=1 key_bytes=14 val_count=1 val_bytes=8 live_count=1 live_bytes=22 intent_count=0 intent_bytes=0 intent_age=0 gc_bytes_age=0 range_key_count=0 range_key_bytes=0 range_val_count=0 range_val_bytes=0 last_update_nanos=1000000000\n",
+        ),
+        (
+            "run",
+            b"put k=a ts=0.9 v=abc\nput k=a ts=1.9 v=abc\nage now=2\nstats",
+            b"ok\nok\nok\nstats: key_count=1 key_bytes=26 val_count=2 val_bytes=16 live_count=1 live_bytes=22 intent_count=0 intent_bytes=0 intent_age=0 gc_bytes_age=20 range_key_count=0 range_key_bytes=0 range_val_count=0 range_val_bytes=0 last_update_nanos=2000000000\n",
+        ),
+        (
+            "run --stats --count-max=100",
+            b"put k=a ts=1 v=abc\ndel k=a ts=3\n# none\nage now=5\nage now=6\nage now=4",
+            b"ok\nstats: key_count=1 key_bytes=14 val_count=1 val_bytes=8 live_count=1 live_bytes=22 intent_count=0 intent_bytes=0 intent_age=0 gc_bytes_age=0 range_key_count=0 range_key_bytes=0 range_val_count=0 range_val_bytes=0 last_update_nanos=1000000000\ndel: found=true\nstats: key_count=1 key_bytes=26 val_count=2 val_bytes=8 live_count=0 live_bytes=0 intent_count=0 intent_bytes=0 intent_age=0 gc_bytes_age=0 range_key_count=0 range_key_bytes=0 range_val_count=0 range_val_bytes=0 last_update_nanos=3000000000\nok\nstats: key_count=1 key_bytes=26 val_count=2 val_bytes=8 live_count=0 live_bytes=0 intent_count=0 intent_bytes=0 intent_age=0 gc_bytes_age=68 range_key_count=0 range_key_bytes=0 range_val_count=0 range_val_bytes=0 last_update_nanos=5000000000\nerror: CountOverflow field=gc_bytes_age\nstats: key_count=1 key_bytes=26 val_count=2 val_bytes=8 live_count=0 live_bytes=0 intent_count=0 intent_bytes=0 intent_age=0 gc_bytes_age=68 range_key_count=0 range_key_bytes=0 range_val_count=0 range_val_bytes=0 last_update_nanos=5000000000\nerror: MomentTooEarly latest=5000000000\nstats: key_count=1 key_bytes=26 val_count=2 val_bytes=8 live_count=0 live_bytes=0 intent_count=0 intent_bytes=0 intent_age=0 gc_bytes_age=68 range_key_count=0 range_key_bytes=0 range_val_count=0 range_val_bytes=0 last_update_nanos=5000000000\n",
+        ),
+        (
+            "run --count-max 13 --stats",
+            b"put k=a ts=1 v=abc\ndel k= ts=1\nage now=5,0",
+            b"error: CountOverflow field=key_bytes\nstats: key_count=0 key_bytes=0 val_count=0 val_bytes=0 live_count=0 live_bytes=0 intent_count=0 intent_bytes=0 intent_age=0 gc_bytes_age=0 range_key_count=0 range_key_bytes=0 range_val_count=0 range_val_bytes=0 last_update_nanos=0\nerror: EmptyKey\nstats: key_count=0 key_bytes=0 val_count=0 val_bytes=0 live_count=0 live_bytes=0 intent_count=0 intent_bytes=0 intent_age=0 gc_bytes_age=0 range_key_count=0 range_key_bytes=0 range_val_count=0 range_val_bytes=0 last_update_nanos=0\nerror: BadLine line=3\nstats: key_count=0 key_bytes=0 val_count=0 val_bytes=0 live_count=0 live_bytes=0 intent_count=0 intent_bytes=0 intent_age=0 gc_bytes_age=0 range_key_count=0 range_key_bytes=0 range_val_count=0 range_val_bytes=0 last_update_nanos=0\n",
+        ),
+    ];
+    for (line, script, answers) in cases {
+        let words = words(rt.alloc(), line)?;
+        let mut source = source(rt.alloc(), script, 100, &[])?;
+        let mut sink = MemSink::new(rt.alloc(), 5_000, 100, Vec::new(rt.alloc()))?;
+        let status = run(&rt, rt.alloc(), &words, &mut source, &mut sink);
+        assert!(rt; status == Status::Done);
+        assert_eq!(rt; sink.bytes(), answers);
+    }
+    Ok(())
+}
+
+#[test]
+fn options_are_read_by_hand(rt: HostRuntime) -> Result<(), Fail> {
+    const MOST: u64 = 9_223_372_036_854_775_807;
+    let cases: [(&str, Option<(bool, u64)>); 24] = [
+        ("", Some((false, MOST))),
+        ("--stats", Some((true, MOST))),
+        ("--count-max 100", Some((false, 100))),
+        ("--stats --count-max=100", Some((true, 100))),
+        ("--count-max 1 --stats", Some((true, 1))),
+        ("--count-max=9223372036854775807", Some((false, MOST))),
+        ("--count-max=09223372036854775807", Some((false, MOST))),
+        ("--count-max=00000000000000000001", Some((false, 1))),
+        ("--count-max=000000000000000000001", None),
+        ("--count-max=9223372036854775808", None),
+        ("--count-max=0", None),
+        ("--count-max=", None),
+        ("--count-max=+1", None),
+        ("--count-max", None),
+        ("--count-max --stats", None),
+        ("--count-max 1 --count-max=2", None),
+        ("--stats --stats", None),
+        ("--stats=", None),
+        ("--stats=x", None),
+        ("--stat", None),
+        ("--", None),
+        ("-- --stats", None),
+        ("--count-max=1 1", None),
+        ("--fast 1", None),
+    ];
+    for (line, wanted) in cases {
+        let words = words(rt.alloc(), line)?;
+        let read = read_options(rt.alloc(), &words)?;
+        let read = read.map(|options| (options.stats(), options.count_max()));
+        assert_eq!(rt; read, wanted, "{line}");
+    }
+    Ok(())
+}
+
+#[test]
+fn an_empty_word_waits_for_its_value(rt: HostRuntime) -> Result<(), Fail> {
+    let mut words = words(rt.alloc(), "--stats")?;
+    words.push(String::from_str(rt.alloc(), "")?)?;
+    assert!(rt; read_options(rt.alloc(), &words)?.is_none());
     Ok(())
 }

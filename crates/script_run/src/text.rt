@@ -4,16 +4,20 @@ ghost use Rattle.std.specs.Fmt.{signed_decimal};
 ghost use Rattle.std.specs.List.{list_all};
 ghost use Rattle.std.specs.Option.{option_map};
 ghost use Rattle.mvcc_key.specs.Seen.{time_of};
-ghost use Rattle.mvcc_value.specs.Seen.{owned_body};
+ghost use Rattle.mvcc_value.specs.Seen.{found_of, owned_body};
 ghost use Rattle.script_run.specs.Text.{Got, escaped, escaped_byte, get_line, is_unescaped, nine_digits, quoted, reason, show, time, value};
-ghost use Rattle.script_run.specs.Seen.{answer_of, found_of, reason_of};
+ghost use Rattle.script_run.specs.Seen.{answer_of, reason_of};
+ghost use Rattle.stat_core.specs.Names.{field_name};
+ghost use Rattle.stat_core.specs.Seen.{field_of};
 ghost use Rattle.script_run.specs.Promise.{Extends};
 
-use crate::hex::hex_byte;
-use crate::versions::Version;
-use itoa::Buffer;
+use crate::pieces::{
+    append, append_escaped, append_nine_digits, append_number, append_numbered, append_signed,
+};
+use crate::statistics::append_statistics;
 use mvcc_key::{OutOfMemory, Timestamp};
-use mvcc_value::OwnedValue;
+use mvcc_value::{Found, OwnedValue};
+use stat_core::{Field, Stats};
 
 /// Why a line is refused.
 #[derive(Clone, Copy, Debug)]
@@ -22,11 +26,17 @@ pub enum Reason {
     BadLine(u64),
     EmptyKey,
     /// The key has this many bytes, more than it may have.
-    KeyTooLong(usize),
+    KeyTooLong(u64),
+    /// The value has this many bytes of data, more than it may have.
+    ValueTooLong(u64),
     /// The timestamp is none.
     BadTimestamp,
     /// A version of the key has this timestamp, and it is not older than the one that was to be put.
     TooOld(Timestamp),
+    /// Statistics are of this wall time already, in nanoseconds.
+    MomentTooEarly(u64),
+    /// This statistic would pass its bound, and none before it.
+    CountOverflow(Field),
 }
 
 /// What is shown of a line that was carried out.
@@ -35,15 +45,20 @@ pub enum Answer<'a> {
     Accepted,
     Got {
         key: &'a [u8],
-        found: Option<&'a Version>,
+        found: Option<&'a Found>,
     },
+    Deleted {
+        /// Whether a value was there.
+        found: bool,
+    },
+    Statistics(&'a Stats),
     Refused(Reason),
 }
 
 impl<'a> Answer<'a> {
     /// What a read of the key found.
-    pub fn of_read(key: &'a [u8], found: Option<&'a Version>) -> Answer<'a>
-        ensures { answer_of result ≡ Got key.now (option_map (λ v. found_of v.now) found.entry) }
+    pub fn of_read(key: &'a [u8], found: Option<&'a Found>) -> Answer<'a>
+        ensures { answer_of result ≡ Got key.now (option_map (λ f. found_of f.now) found.entry) }
     {
         Answer::Got { key, found }
     }
@@ -72,6 +87,9 @@ fn append_answer(answer: Answer<'_>, into: &mut Vec<u8>) -> Result<(), OutOfMemo
     match answer {
         Answer::Accepted => append(b"ok\n", into),
         Answer::Got { key, found } => append_get_line(key, found, into),
+        Answer::Deleted { found: true } => append(b"del: found=true\n", into),
+        Answer::Deleted { found: false } => append(b"del: found=false\n", into),
+        Answer::Statistics(stats) => append_statistics(stats, into),
         Answer::Refused(why) => {
             append(b"error: ", into)?;
             append_reason(why, into)?;
@@ -82,12 +100,8 @@ fn append_answer(answer: Answer<'_>, into: &mut Vec<u8>) -> Result<(), OutOfMemo
 }
 
 #[tactic(auto, unfolding(crate::specs::Text::get_line))]
-fn append_get_line(
-    key: &[u8],
-    found: Option<&Version>,
-    into: &mut Vec<u8>,
-) -> Result<(), OutOfMemory>
-    ensures ok { OnOk result (into.new.items ≡ into.old.items ++ get_line key.now (option_map (λ v. found_of v.now) found.entry)) }
+fn append_get_line(key: &[u8], found: Option<&Found>, into: &mut Vec<u8>) -> Result<(), OutOfMemory>
+    ensures ok { OnOk result (into.new.items ≡ into.old.items ++ get_line key.now (option_map (λ f. found_of f.now) found.entry)) }
     ensures err { OnErr result (Extends into.old.items into.new.items) }
 {
     append(b"get: ", into)?;
@@ -97,12 +111,12 @@ fn append_get_line(
             append(b" -> <no data>\n", into)?;
             Ok(())
         }
-        Some(version) => {
-            append_quoted(version.key.bytes(), into)?;
+        Some(found) => {
+            append_quoted(found.key.bytes(), into)?;
             append(b" -> ", into)?;
-            append_value(&version.value, into)?;
+            append_value(&found.value, into)?;
             append(b" @", into)?;
-            append_time(version.ts, into)?;
+            append_time(found.ts, into)?;
             append(b"\n", into)?;
             Ok(())
         }
@@ -117,20 +131,13 @@ fn append_reason(why: Reason, into: &mut Vec<u8>) -> Result<(), OutOfMemory>
     match why {
         Reason::BadLine(line) => append_numbered(b"BadLine line=", line, into),
         Reason::EmptyKey => append(b"EmptyKey", into),
-        Reason::KeyTooLong(length) => append_numbered(b"KeyTooLong length=", length as u64, into),
+        Reason::KeyTooLong(length) => append_numbered(b"KeyTooLong length=", length, into),
+        Reason::ValueTooLong(length) => append_numbered(b"ValueTooLong length=", length, into),
         Reason::BadTimestamp => append(b"BadTimestamp", into),
         Reason::TooOld(existing) => append_timed(b"TooOld existing=", existing, into),
+        Reason::MomentTooEarly(latest) => append_numbered(b"MomentTooEarly latest=", latest, into),
+        Reason::CountOverflow(field) => append_named(b"CountOverflow field=", field, into),
     }
-}
-
-/// Words with a number behind them.
-fn append_numbered(words: &[u8], number: u64, into: &mut Vec<u8>) -> Result<(), OutOfMemory>
-    ensures ok { OnOk result (into.new.items ≡ into.old.items ++ (words.now ++ decimal number)) }
-    ensures err { OnErr result (Extends into.old.items into.new.items) }
-{
-    append(words, into)?;
-    append_number(number, into)?;
-    Ok(())
 }
 
 /// Words with a timestamp behind them.
@@ -140,6 +147,16 @@ fn append_timed(words: &[u8], ts: Timestamp, into: &mut Vec<u8>) -> Result<(), O
 {
     append(words, into)?;
     append_time(ts, into)?;
+    Ok(())
+}
+
+/// Words with the name of a statistic behind them.
+fn append_named(words: &[u8], field: Field, into: &mut Vec<u8>) -> Result<(), OutOfMemory>
+    ensures ok { OnOk result (into.new.items ≡ into.old.items ++ (words.now ++ field_name (field_of field))) }
+    ensures err { OnErr result (Extends into.old.items into.new.items) }
+{
+    append(words, into)?;
+    append(field.name().as_bytes(), into)?;
     Ok(())
 }
 
@@ -175,53 +192,6 @@ fn append_value(stored: &OwnedValue, into: &mut Vec<u8>) -> Result<(), OutOfMemo
     }
 }
 
-/// Bytes, each for itself or escaped.
-#[tactic(auto, using(crate::proofs::TextLaws::unescaped_text))]
-fn append_escaped(bytes: &[u8], into: &mut Vec<u8>) -> Result<(), OutOfMemory>
-    ensures ok { OnOk result (into.new.items ≡ into.old.items ++ escaped bytes.now) }
-    ensures err { OnErr result (Extends into.old.items into.new.items) }
-{
-    if are_unescaped(bytes) {
-        append(bytes, into)?;
-        return Ok(());
-    }
-    for byte in bytes {
-        append_byte(*byte, into)?;
-    }
-    Ok(())
-}
-
-#[tactic(auto, unfolding(crate::specs::Text::escaped_byte))]
-fn append_byte(byte: u8, into: &mut Vec<u8>) -> Result<(), OutOfMemory>
-    ensures ok { OnOk result (into.new.items ≡ into.old.items ++ escaped_byte byte) }
-    ensures err { OnErr result (into.new.items ≡ into.old.items) }
-{
-    if is_unescaped(byte) {
-        append(&[byte], into)
-    } else if byte == b'\\' {
-        append(b"\\\\", into)
-    } else {
-        append(
-            &[b'\\', b'x', hex_byte(byte / 16), hex_byte(byte % 16)],
-            into,
-        )
-    }
-}
-
-/// Whether each of the bytes is printed as it is.
-fn are_unescaped(bytes: &[u8]) -> bool
-    ensures { result ≡ list_all is_unescaped bytes.now }
-{
-    bytes.iter().all(|byte| is_unescaped(*byte))
-}
-
-/// Whether the byte is printed as it is.
-fn is_unescaped(byte: u8) -> bool
-    ensures { result ≡ is_unescaped byte }
-{
-    (0x21..=0x7e).contains(&byte) && byte != b'"' && byte != b'\\'
-}
-
 /// Seconds, nine digits of nanoseconds, and the counter.
 #[tactic(auto, unfolding(crate::specs::Text::time))]
 fn append_time(ts: Timestamp, into: &mut Vec<u8>) -> Result<(), OutOfMemory>
@@ -233,56 +203,5 @@ fn append_time(ts: Timestamp, into: &mut Vec<u8>) -> Result<(), OutOfMemory>
     append_nine_digits((ts.wall() % 1_000_000_000) as u32, into)?;
     append(b",", into)?;
     append_number(u64::from(ts.logical()), into)?;
-    Ok(())
-}
-
-/// The last nine decimal digits.
-fn append_nine_digits(n: u32, into: &mut Vec<u8>) -> Result<(), OutOfMemory>
-    requires { n < 10 ^ 9 }
-    ensures ok { OnOk result (into.new.items ≡ into.old.items ++ nine_digits n) }
-    ensures err { OnErr result (into.new.items ≡ into.old.items) }
-{
-    let digits = [
-        digit(n / 100_000_000),
-        digit(n / 10_000_000),
-        digit(n / 1_000_000),
-        digit(n / 100_000),
-        digit(n / 10_000),
-        digit(n / 1_000),
-        digit(n / 100),
-        digit(n / 10),
-        digit(n),
-    ];
-    append(&digits, into)
-}
-
-/// The last decimal digit.
-fn digit(n: u32) -> u8
-    ensures { result ≡ 48 + n % 10 }
-{
-    b'0' + (n % 10) as u8
-}
-
-fn append_number(number: u64, into: &mut Vec<u8>) -> Result<(), OutOfMemory>
-    ensures ok { OnOk result (into.new.items ≡ into.old.items ++ decimal number) }
-    ensures err { OnErr result (into.new.items ≡ into.old.items) }
-{
-    let mut buffer = Buffer::new();
-    append(buffer.format(number).as_bytes(), into)
-}
-
-fn append_signed(number: i64, into: &mut Vec<u8>) -> Result<(), OutOfMemory>
-    ensures ok { OnOk result (into.new.items ≡ into.old.items ++ signed_decimal number) }
-    ensures err { OnErr result (into.new.items ≡ into.old.items) }
-{
-    let mut buffer = Buffer::new();
-    append(buffer.format(number).as_bytes(), into)
-}
-
-fn append(text: &[u8], into: &mut Vec<u8>) -> Result<(), OutOfMemory>
-    ensures ok { OnOk result (into.new.items ≡ into.old.items ++ text.now) }
-    ensures err { OnErr result (into.new.items ≡ into.old.items) }
-{
-    into.extend_from_slice(text)?;
     Ok(())
 }

@@ -2,7 +2,7 @@
 ghost use Rattle.std.specs.Prelude.{◌≡◌, ◌<◌, ◌∷◌, ◌&&◌, [], IfOk, IfSome, MatchOption, length, map, position, not};
 ghost use Rattle.std.specs.Option.{option_map};
 ghost use Rattle.std.specs.List.{list_any, list_all};
-ghost use Rattle.script_run.specs.Words.{are_distinct, are_only, is_allowed, is_among, is_blank, is_named, value_of, words};
+ghost use Rattle.script_run.specs.Words.{are_distinct, are_only, has, is_allowed, is_among, is_blank, is_named, value_of, words};
 ghost use Rattle.script_run.specs.Words as spec;
 ghost use Rattle.script_run.specs.SeenLine.{word_of};
 
@@ -27,7 +27,7 @@ impl<'a> Word<'a> {
     }
 
     /// Whether it has this name.
-    fn is_named(&self, name: &[u8]) -> bool
+    pub fn is_named(&self, name: &[u8]) -> bool
         ensures { result ≡ is_named name.now (word_of self.now) }
     {
         self.name == name
@@ -134,8 +134,9 @@ fn are_distinct(words: &[Word<'_>]) -> bool
 }
 
 /// Whether there is a word of this name.
-fn has(words: &[Word<'_>], name: &[u8]) -> bool
-    ensures { result ≡ list_any (is_named name.now) (map word_of words.now) }
+#[tactic(auto, unfolding(crate::specs::Words::has))]
+pub fn has(words: &[Word<'_>], name: &[u8]) -> bool
+    ensures { result ≡ has name.now (map word_of words.now) }
 {
     for word in words {
         if word.is_named(name) {

@@ -6,7 +6,7 @@ use Rattle.script_run.proofs.answers.gather_answers.Given as goal
 
 abbrev pub invariant-loop-rest : goal.invariant-loop-rest
 invariant-loop-rest g l = record {
-  under_way : IsUnderWay (g.K.Sink.held l.initial.sink) (g.K.Sink.held l.sink) l.text.items (output_from l.session (l.number + 1) (lines l.rest)) (script_output l.script);
+  under_way : IsUnderWay (g.K.Sink.held l.initial.sink) (g.K.Sink.held l.sink) l.text.items (output_from l.options.stats l.session (l.number + 1) (lines l.rest)) (script_output l.options l.script);
   counted : l.number + length l.rest ≤ length l.script;
   later : g.K.Sink.faults l.initial.sink ≤ g.K.Sink.faults l.sink;
 }

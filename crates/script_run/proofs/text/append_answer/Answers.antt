@@ -8,3 +8,9 @@ returns-in_err-append-in-Refused-clause-err c = on_err c.from_residual.result (E
 
 pub returns-in-Accepted-clause-err : goal.returns-in-Accepted-clause-err
 returns-in-Accepted-clause-err c = on_err_weaker c.append.result (Extends-same _ _) c.append.ensures.err
+
+pub returns-in-Deleted-true-clause-err : goal.returns-in-Deleted-true-clause-err
+returns-in-Deleted-true-clause-err c = on_err_weaker c.append-in-Deleted-true.result (Extends-same _ _) c.append-in-Deleted-true.ensures.err
+
+pub returns-in-Deleted-false-clause-err : goal.returns-in-Deleted-false-clause-err
+returns-in-Deleted-false-clause-err c = on_err_weaker c.append-in-Deleted-false.result (Extends-same _ _) c.append-in-Deleted-false.ensures.err

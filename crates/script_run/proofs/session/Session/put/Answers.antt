@@ -1,18 +1,26 @@
--- A put of the versions is a step of the state.
-use Rattle.std.proofs.Common.{sym, ap, ◌∙◌}
-use Rattle.std.specs.Option.{option_map}
-use Rattle.std.specs.Result.{result_ok}
+-- A put is a step of the engine.
+use Rattle.std.proofs.Common.{◌≡◌, refl, ◌∙◌, subst, Ok}
+use Rattle.mvcc_key.specs.History.{Bytes}
 use Rattle.mvcc_key.specs.Seen.{time_of}
-use Rattle.mvcc_value.specs.Seen.{plain_body}
-use Rattle.script_run.specs.Seen.{reason_of}
-use Rattle.script_run.proofs.StepLaws.{answers-Ok, answers-Err}
+use Rattle.mvcc_engine.specs.Seen.{Tells, refusal_of}
+use Rattle.mvcc_engine.specs.Step as engine
+use Rattle.mvcc_engine.specs.Step.{Finished, step}
+use Rattle.script_run.specs.Grammar.{Put}
+use Rattle.script_run.specs.Output.{finished}
+use Rattle.script_run.specs.Text.{Accepted}
+use Rattle.script_run.proofs.StepLaws.{taken, refused}
 use Rattle.script_run.proofs.session.Session.put.Goals as goal
 
-pub returns-in-Err : goal.returns-in-Err
-returns-in-Err c =
-    answers-Err c.in-Err.fault (reason_of c.in_ok-why.why) c.self.inside.versions c.put.new.self c.args.key.now (time_of c.args.ts) (plain_body c.args.value) c.args.self.now c.self.view_is
-    (sym (ap (λ r. option_map reason_of (result_ok r)) c.in_ok-why.was) ∙ c.refused.ensures) c.in-Err.ensures
+pub returns-in-Err-clause-ok : goal.returns-in-Err-clause-ok
+returns-in-Err-clause-ok c =
+    let command = engine.Put c.args.key.now (time_of c.args.ts) (Bytes c.args.value.now) in
+    refused c.show_refusal.result c.args.text.now.items c.show_refusal.new.text.items c.args.self.now c.put_at.new.self (Put c.args.key.now (time_of c.args.ts) (Bytes c.args.value.now)) finished
+    (step c.args.self.now command) refl (refusal_of c.in-Err.why) c.show_refusal.ensures.ok c.show_refusal.ensures.told (c.in-Err.ensures.0 ∙ c.self.view_is)
+    (subst (λ t. Tells (refusal_of c.in-Err.why) (step t command)) c.self.view_is c.in-Err.ensures.1)
 
-pub returns : goal.returns
-returns c =
-    answers-Ok c.self.inside.versions c.put.new.self c.args.key.now (time_of c.args.ts) (plain_body c.args.value) c.args.self.now c.self.view_is c.in_default.ensures
+pub returns-clause-ok : goal.returns-clause-ok
+returns-clause-ok c =
+    let command = engine.Put c.args.key.now (time_of c.args.ts) (Bytes c.args.value.now) in
+    taken c.show.result c.args.text.now.items c.show.new.into.items c.args.self.now c.put_at.new.self (Put c.args.key.now (time_of c.args.ts) (Bytes c.args.value.now)) finished
+    (step c.args.self.now command) refl Finished Accepted
+    (subst (λ t. step t command ≡ Ok (record { state = c.put_at.new.self; reply = Finished })) c.self.view_is c.in_default.ensures) refl c.show.ensures.ok

@@ -1,0 +1,50 @@
+-- A line is carried out as the definitions say.
+use Rattle.std.proofs.Common.{◌≡◌, [], ◌∷◌, sym, ap, ◌∙◌}
+use Rattle.std.specs.Option.{option_map}
+use Rattle.std.proofs.lemmas.Result.{on_ok_weaker}
+use Rattle.script_run.specs.Text.{Refused, BadLine}
+use Rattle.script_run.specs.Output.{carry_out, performed}
+use Rattle.script_run.specs.SeenLine.{line_of}
+use Rattle.script_run.proofs.TextLaws.{on_ok}
+use Rattle.script_run.proofs.StepLaws.{carry_out-bad, carry_out-performed, performed-blank, answered, unanswered}
+use Rattle.script_run.proofs.session.Session.answer.Goals as goal
+
+bad : (c : goal.After-show_statistics) → carry_out c.args.self.now c.args.number c.args.line.now ≡ record { state = c.args.self.now; answers = Refused (BadLine c.args.number) ∷ [] }
+bad c = carry_out-bad c.args.self.now c.args.number c.args.line.now c.without_return.result.now c.without_return.ensures (sym c.in_ok-said.ensures ∙ ap (option_map line_of) c.in_default.is)
+
+pub returns-in_default-clause-state : goal.returns-in_default-clause-state
+returns-in_default-clause-state c = on_ok c.show_statistics.result (ap (λ k. k.state) (sym (bad c)))
+
+pub returns-in_default-clause-answer : goal.returns-in_default-clause-answer
+returns-in_default-clause-answer c =
+    on_ok_weaker c.show_statistics.result
+    (λ e. answered c.args.options.stats (carry_out c.args.self.now c.args.number c.args.line.now) c.args.self.now (Refused (BadLine c.args.number)) c.args.text.now.items c.show.new.into.items
+    c.show_statistics.new.text.items (bad c) c.in_ok-show.ensures.ok e)
+    c.show_statistics.ensures.ok
+
+blank : (c : goal.Joined-said) → carry_out c.args.self.now c.args.number c.args.line.now ≡ record { state = c.args.self.now; answers = [] }
+blank c =
+    carry_out-performed c.args.self.now c.args.number c.args.line.now c.without_return.result.now (line_of c.in-Some.said) c.without_return.ensures
+    (sym c.in_ok-said.ensures ∙ ap (option_map line_of) c.in-Some.is)
+    ∙ performed-blank c.args.self.now (line_of c.in-Some.said) (sym c.if-is_blank.ensures)
+
+pub returns-then-is_blank-clause-state : goal.returns-then-is_blank-clause-state
+returns-then-is_blank-clause-state c = ap (λ k. k.state) (sym (blank c))
+
+pub returns-then-is_blank-clause-answer : goal.returns-then-is_blank-clause-answer
+returns-then-is_blank-clause-answer c = unanswered c.args.options.stats (carry_out c.args.self.now c.args.number c.args.line.now) c.args.self.now c.args.text.now.items (blank c)
+
+said : (c : goal.Joined-said-11) → carry_out c.args.self.now c.args.number c.args.line.now ≡ performed c.args.self.now (line_of c.in-Some.said)
+said c =
+    carry_out-performed c.args.self.now c.args.number c.args.line.now c.without_return.result.now (line_of c.in-Some.said) c.without_return.ensures
+    (sym c.in_ok-said.ensures ∙ ap (option_map line_of) c.in-Some.is)
+
+pub returns-clause-state : goal.returns-clause-state
+returns-clause-state c = on_ok c.show_statistics-2.result (sym (ap (λ k. k.state) (said c ∙ c.in_ok-perform.ensures.ok.carried)))
+
+pub returns-clause-answer : goal.returns-clause-answer
+returns-clause-answer c =
+    on_ok_weaker c.show_statistics-2.result
+    (λ e. answered c.args.options.stats (carry_out c.args.self.now c.args.number c.args.line.now) c.perform.new.self c.in_ok-perform.ensures.ok.answer c.args.text.now.items c.perform.new.text.items
+    c.show_statistics-2.new.text.items (said c ∙ c.in_ok-perform.ensures.ok.carried) c.in_ok-perform.ensures.ok.shown e)
+    c.show_statistics-2.ensures.ok
