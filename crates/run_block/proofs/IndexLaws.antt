@@ -1,0 +1,91 @@
+-- An index with one entry more.
+use Rattle.std.proofs.Common.{◌≡◌, ℕ, List, [], ◌∷◌, ◌++◌, map, refl, sym, ap, ◌∙◌, append_assoc}
+use Rattle.std.specs.Prelude.{Option, Some, None, option_to_list}
+use Rattle.std.specs.List.{filter_map}
+use Rattle.std.proofs.lemmas.List.{append-nil, map-append}
+use Rattle.std.proofs.lemmas.List.Elements.{filter_map-append, All-push}
+use Rattle.std.proofs.lemmas.List.Sums.{fold-append}
+use Rattle.mvcc_key.specs.Order.{Timestamp}
+use Rattle.mvcc_key.specs.Seen.{time_of}
+use Rattle.mvcc_key.specs.Points.{Point}
+use Rattle.run_block.specs.RunFormat.{RangeOp}
+use Rattle.run_block.specs.TimeSpan.{point_time, times_of, widened, span_of}
+use Rattle.run_block.specs.Places.{point_in, range_in, points_in, ranges_in, IsPlaced, IsRangePlaced, run_in, span_seen, IsIndex}
+use Rattle.run_block.specs.declared.index.Index.{Index}
+use Rattle.run_block.specs.declared.place.PointPlace.{PointPlace}
+use Rattle.run_block.specs.declared.place.RangePlace.{RangePlace}
+
+-- a span with a timestamp in it, where there is one
+abbrev pub span_with : Option (Timestamp × Timestamp) → Option Timestamp → Option (Timestamp × Timestamp)
+span_with span None = span
+span_with span (Some t) = widened span t
+
+-- the span of one timestamp more, where there is one
+span_of-more : (times : List Timestamp) (o : Option Timestamp) → span_of (times ++ option_to_list o) ≡ span_with (span_of times) o
+span_of-more times None = ap span_of (append-nil times)
+span_of-more times (Some t) = fold-append widened None times (t ∷ [])
+
+filter_map-one : {X Y : Type 0} (f : X → Option Y) (x : X) (ys : List Y) → filter_map f (x ∷ []) ++ ys ≡ option_to_list (f x) ++ ys
+filter_map-one f x ys = by (f x) refl
+  where
+    by : (o : Option _) → f x ≡ o → filter_map f (x ∷ []) ++ ys ≡ option_to_list (f x) ++ ys
+    by None e = rw e refl
+    by (Some y) e = rw e refl
+
+-- the timestamps with one point more, before any range operation
+times_of-point : (ps : List Point) (p : Point) → times_of (record { points = ps ++ p ∷ []; ranges = [] }) ≡ times_of (record { points = ps; ranges = [] }) ++ option_to_list (point_time p)
+times_of-point ps p =
+    append-nil (filter_map point_time (ps ++ p ∷ []))
+    ∙ filter_map-append point_time ps (p ∷ [])
+    ∙ ap (λ (xs : List Timestamp). filter_map point_time ps ++ xs) (sym (append-nil (filter_map point_time (p ∷ []))) ∙ filter_map-one point_time p [] ∙ append-nil (option_to_list (point_time p)))
+    ∙ ap (λ (xs : List Timestamp). xs ++ option_to_list (point_time p)) (sym (append-nil (filter_map point_time ps)))
+
+-- the timestamps with one range operation more
+times_of-range : (ps : List Point) (rs : List RangeOp) (r : RangeOp) → times_of (record { points = ps; ranges = rs ++ r ∷ [] }) ≡ times_of (record { points = ps; ranges = rs }) ++ r.ts ∷ []
+times_of-range ps rs r =
+    ap (λ (xs : List Timestamp). filter_map point_time ps ++ xs) (map-append (λ (o : RangeOp). o.ts) rs (r ∷ []))
+    ∙ sym (append_assoc (filter_map point_time ps) (map (λ (o : RangeOp). o.ts) rs) (r.ts ∷ []))
+
+-- the run with one point more
+pub points_in-push : (bytes : List ℕ) (places : List PointPlace) (p : PointPlace) → points_in bytes (places ++ p ∷ []) ≡ points_in bytes places ++ point_in bytes p ∷ []
+points_in-push bytes places p = map-append (point_in bytes) places (p ∷ [])
+
+-- the run with one range operation more
+pub ranges_in-push : (bytes : List ℕ) (places : List RangePlace) (r : RangePlace) → ranges_in bytes (places ++ r ∷ []) ≡ ranges_in bytes places ++ range_in bytes r ∷ []
+ranges_in-push bytes places r = map-append (range_in bytes) places (r ∷ [])
+
+-- an index with one point more
+pub index-point : (bytes : List ℕ) (old new : Index) (p : PointPlace) → IsIndex bytes old → IsPlaced bytes p → old.ranges.items ≡ []
+    → new.ranges.items ≡ old.ranges.items → new.points.items ≡ old.points.items ++ p ∷ []
+    → span_seen new.span ≡ span_with (span_seen old.span) (point_time (point_in bytes p)) → IsIndex bytes new
+index-point bytes old new p is placed none same more span =
+    let empty : new.ranges.items ≡ [] = same ∙ none in
+    let was : times_of (run_in bytes old) ≡ times_of (record { points = points_in bytes old.points.items; ranges = [] }) =
+    ap (λ (rs : List RangePlace). times_of (record { points = points_in bytes old.points.items; ranges = ranges_in bytes rs })) none in
+    let now : times_of (run_in bytes new) ≡ times_of (record { points = points_in bytes old.points.items ++ point_in bytes p ∷ []; ranges = [] }) =
+    ap (λ (rs : List RangePlace). times_of (record { points = points_in bytes new.points.items; ranges = ranges_in bytes rs })) empty
+    ∙ ap (λ (ps : List Point). times_of (record { points = ps; ranges = [] })) (ap (points_in bytes) more ∙ points_in-push bytes old.points.items p) in
+    let times : times_of (run_in bytes new) ≡ times_of (run_in bytes old) ++ option_to_list (point_time (point_in bytes p)) =
+    now ∙ times_of-point (points_in bytes old.points.items) (point_in bytes p) ∙ ap (λ (ts : List Timestamp). ts ++ option_to_list (point_time (point_in bytes p))) (sym was) in
+    record {
+      points = rw more (All-push (IsPlaced bytes) old.points.items p is.points placed);
+      ranges = rw same is.ranges;
+      span = span ∙ ap (λ (s : Option (Timestamp × Timestamp)). span_with s (point_time (point_in bytes p))) is.span
+          ∙ sym (span_of-more (times_of (run_in bytes old)) (point_time (point_in bytes p))) ∙ ap span_of (sym times);
+    }
+
+-- an index with one range operation more
+pub index-range : (bytes : List ℕ) (old new : Index) (r : RangePlace) → IsIndex bytes old → IsRangePlaced bytes r
+    → new.points.items ≡ old.points.items → new.ranges.items ≡ old.ranges.items ++ r ∷ []
+    → span_seen new.span ≡ widened (span_seen old.span) (time_of r.ts) → IsIndex bytes new
+index-range bytes old new r is placed same more span =
+    let times : times_of (run_in bytes new) ≡ times_of (run_in bytes old) ++ time_of r.ts ∷ [] =
+    ap (λ (ps : List PointPlace). times_of (record { points = points_in bytes ps; ranges = ranges_in bytes new.ranges.items })) same
+    ∙ ap (λ (rs : List RangeOp). times_of (record { points = points_in bytes old.points.items; ranges = rs })) (ap (ranges_in bytes) more ∙ ranges_in-push bytes old.ranges.items r)
+    ∙ times_of-range (points_in bytes old.points.items) (ranges_in bytes old.ranges.items) (range_in bytes r) in
+    record {
+      points = rw same is.points;
+      ranges = rw more (All-push (IsRangePlaced bytes) old.ranges.items r is.ranges placed);
+      span = span ∙ ap (λ (s : Option (Timestamp × Timestamp)). widened s (time_of r.ts)) is.span
+          ∙ sym (span_of-more (times_of (run_in bytes old)) (Some (time_of r.ts))) ∙ ap span_of (sym times);
+    }

@@ -1,0 +1,9 @@
+pub mod BuildLaws
+pub mod FormLaws
+pub mod IndexLaws
+pub mod ReadingLaws
+pub mod RunLaws
+pub mod SpanLaws
+pub mod TimeLaws
+pub mod WholeLaws
+pub mod WritingLaws

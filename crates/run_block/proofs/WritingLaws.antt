@@ -1,0 +1,89 @@
+-- Bytes that are written behind others.
+use Rattle.std.proofs.Common.{◌≡◌, ℕ, ◌-◌, ◌≤◌, Bool, cond, List, [], ◌∷◌, ◌++◌, length, take, drop, refl, sym, ap, subst, ◌∙◌, append_assoc, arith}
+use Rattle.std.specs.Prelude.{Option, Some, None, Result, Ok, All, is_ok, if◌then◌else◌}
+use Rattle.std.specs.Option.{ForSome, option_map}
+use Rattle.std.proofs.lemmas.List.{take-append-le, drop-append-le, length-append, length-drop}
+use Rattle.std.proofs.lemmas.List.Elements.{All-head, All-tail, All-weaker}
+use Rattle.mvcc_key.specs.Encoded.{IsName, name_in}
+use Rattle.run_block.specs.RunFormat.{Run}
+use Rattle.run_block.specs.TimeSpan.{times_of, span_of}
+use Rattle.run_block.specs.Places.{piece_in, point_in, range_in, points_in, ranges_in, IsPlaced, IsRangePlaced, run_in, IsIndex}
+use Rattle.run_block.specs.declared.index.Index.{Index}
+use Rattle.run_block.specs.declared.piece.Piece.{Piece}
+use Rattle.run_block.specs.declared.place.PointPlace.{PointPlace}
+use Rattle.run_block.specs.declared.place.RangePlace.{RangePlace}
+
+-- bytes behind others, where there was room
+pub extended : {T E : Type 0} (r : Result T E) (x : T) (now old more : List ℕ) → now ≡ (if is_ok r then old ++ more else old) → r ≡ Ok x → now ≡ old ++ more
+extended r x now old more is ok = is ∙ ap (λ (b : Bool). cond b (old ++ more) old) (ap is_ok ok)
+
+pub regroup3 : (o a b c : List ℕ) → ((o ++ a) ++ b) ++ c ≡ o ++ ((a ++ b) ++ c)
+regroup3 o a b c = simp append_assoc
+
+-- ---- pieces of bytes with more behind them
+
+-- a piece is the same with more bytes behind
+pub piece_in-more : (bytes more : List ℕ) (p : Piece) → p.end ≤ length bytes → piece_in (bytes ++ more) p ≡ piece_in bytes p
+piece_in-more bytes more p within =
+    let ordered = p.ordered in
+    ap (λ (xs : List ℕ). take (p.end - p.start) xs) (drop-append-le p.start bytes more (omega arith))
+    ∙ take-append-le (p.end - p.start) (drop p.start bytes) more (omega (arith, length-drop p.start bytes))
+
+value_in-more : (bytes more : List ℕ) (value : Option Piece) → ForSome value (λ p. p.end ≤ length bytes) → option_map (piece_in (bytes ++ more)) value ≡ option_map (piece_in bytes) value
+value_in-more bytes more None h = refl
+value_in-more bytes more (Some p) h = ap (λ (x : List ℕ). Some x) (piece_in-more bytes more p (h p refl))
+
+-- a point is the same with more bytes behind
+pub point_in-more : (bytes more : List ℕ) (p : PointPlace) → IsPlaced bytes p → point_in (bytes ++ more) p ≡ point_in bytes p
+point_in-more bytes more p h =
+    let key = piece_in-more bytes more p.key h.key in
+    let value = value_in-more bytes more p.value h.value in
+    λ i. record { name = name_in (key i); value = value i }
+
+pub placed-more : (bytes more : List ℕ) (p : PointPlace) → IsPlaced bytes p → IsPlaced (bytes ++ more) p
+placed-more bytes more p h = record {
+  key = (let k = h.key in omega (arith, length-append bytes more));
+  value = λ v e. (let le = h.value v e in omega (arith, length-append bytes more));
+  name = subst IsName (sym (piece_in-more bytes more p.key h.key)) h.name;
+}
+
+pub range_placed-more : (bytes more : List ℕ) (r : RangePlace) → IsRangePlaced bytes r → IsRangePlaced (bytes ++ more) r
+range_placed-more bytes more r h = record {
+  start = (let le = h.start in omega (arith, length-append bytes more));
+  end = (let le = h.end in omega (arith, length-append bytes more));
+}
+
+range_in-more : (bytes more : List ℕ) (r : RangePlace) → IsRangePlaced bytes r → range_in (bytes ++ more) r ≡ range_in bytes r
+range_in-more bytes more r h =
+    let start = piece_in-more bytes more r.start h.start in
+    let end = piece_in-more bytes more r.end h.end in
+    λ i. record { start = start i; end = end i; ts = (range_in bytes r).ts; value = (range_in bytes r).value }
+
+pub points_in-more : (bytes more : List ℕ) (ps : List PointPlace) → All (IsPlaced bytes) ps → points_in (bytes ++ more) ps ≡ points_in bytes ps
+points_in-more bytes more [] all = refl
+points_in-more bytes more (p ∷ ps) all =
+    let first = point_in-more bytes more p (All-head (IsPlaced bytes) p ps all) in
+    let others = points_in-more bytes more ps (All-tail (IsPlaced bytes) p ps all) in
+    λ i. first i ∷ others i
+
+pub ranges_in-more : (bytes more : List ℕ) (rs : List RangePlace) → All (IsRangePlaced bytes) rs → ranges_in (bytes ++ more) rs ≡ ranges_in bytes rs
+ranges_in-more bytes more [] all = refl
+ranges_in-more bytes more (r ∷ rs) all =
+    let first = range_in-more bytes more r (All-head (IsRangePlaced bytes) r rs all) in
+    let others = ranges_in-more bytes more rs (All-tail (IsRangePlaced bytes) r rs all) in
+    λ i. first i ∷ others i
+
+-- the run at the places is the same with more bytes behind
+pub run_in-more : (bytes more : List ℕ) (index : Index) → IsIndex bytes index → run_in (bytes ++ more) index ≡ run_in bytes index
+run_in-more bytes more index is =
+    let points = points_in-more bytes more index.points.items is.points in
+    let ranges = ranges_in-more bytes more index.ranges.items is.ranges in
+    λ i. record { points = points i; ranges = ranges i }
+
+-- an index is one of the bytes with more behind
+pub index-more : (bytes more : List ℕ) (index : Index) → IsIndex bytes index → IsIndex (bytes ++ more) index
+index-more bytes more index is = record {
+  points = All-weaker (IsPlaced bytes) (IsPlaced (bytes ++ more)) (λ p h. placed-more bytes more p h) index.points.items is.points;
+  ranges = All-weaker (IsRangePlaced bytes) (IsRangePlaced (bytes ++ more)) (λ r h. range_placed-more bytes more r h) index.ranges.items is.ranges;
+  span = is.span ∙ ap (λ (r : Run). span_of (times_of r)) (sym (run_in-more bytes more index is));
+}

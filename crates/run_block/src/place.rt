@@ -1,0 +1,19 @@
+//! Where the entries of a run lie in its bytes.
+use crate::piece::Piece;
+use mvcc_key::Timestamp;
+
+/// Where a point lies: its encoded key, and its value where it is set.
+#[derive(Clone, Copy, Debug)]
+pub(crate) struct PointPlace {
+    pub(crate) key: Piece,
+    pub(crate) value: Option<Piece>,
+}
+
+/// Where a range operation lies: its bounds. It sets, or removes.
+#[derive(Clone, Copy, Debug)]
+pub(crate) struct RangePlace {
+    pub(crate) start: Piece,
+    pub(crate) end: Piece,
+    pub(crate) ts: Timestamp,
+    pub(crate) set: bool,
+}

@@ -1,0 +1,320 @@
+ghost use Rattle.std.specs.Prelude.{◌≡◌, ◌<◌};
+
+mod rising;
+
+use super::*;
+use mvcc_key::{Bytes, Cursor, OutOfMemory, PointOp, Steps, Timestamp, encode_key};
+use rising::Rising;
+use std::alloc::Global;
+use std::marker::Brand;
+use std::sync::ledger::{Blank, Ledger};
+use std::test::Fail;
+
+/// One version: the key `a` at a wall time of a second, with the value `abc` in its plain form.
+const FILE: &[u8; 52] = b"MVCCRUN1\
+    \x00\x00\x00\x00\x00\x00\x00\x01\x00\x00\x00\x00\x00\x00\x00\x00\
+    \x01\x00\x00\x00\x0ba\x00\x00\x00\x00\x00\x3b\x9a\xca\x00\x09\
+    \x00\x00\x00\x08\x00\x00\x00\x00\x03abc";
+
+/// Where the fields of the file begin.
+const FIELDS: [u64; 8] = [0, 8, 16, 24, 25, 29, 40, 44];
+
+fn fault_in(alloc: Global, bytes: &[u8]) -> Option<ParseFault> {
+    parse(alloc, bytes).err()
+}
+
+fn fault(kind: FileKind, place: u64) -> Option<ParseFault> {
+    Some(ParseFault::Fault(RunFault { kind, place }))
+}
+
+/// Where the last field begins that begins in or behind so many bytes.
+fn last_field(len: u64) -> u64 {
+    let mut last = 0;
+    for field in FIELDS {
+        if field <= len {
+            last = field;
+        }
+    }
+    last
+}
+
+#[test]
+fn each_beginning_is_short(rt: HostRuntime) -> Result<(), Fail> {
+    for len in 0..FILE.len() {
+        let place = last_field(len as u64);
+        assert_eq!(rt;
+            fault_in(rt.alloc(), &FILE[..len]),
+            fault(FileKind::Short, place),
+            "at {len}"
+        );
+    }
+    let mut more = FILE.to_vec(rt.alloc())?;
+    more.push(0)?;
+    assert_eq!(rt;
+        fault_in(rt.alloc(), more.as_slice()),
+        fault(FileKind::Trailing, 52)
+    );
+    Ok(())
+}
+
+/// Bytes of no run, and their first fault.
+type Damaged = (&'static [u8], FileKind, u64);
+
+const CASES: [Damaged; 19] = [
+    (b"MVCCRUN2", FileKind::Magic, 0),
+    (b"MVCCRUN", FileKind::Short, 0),
+    // 2^63 points are claimed in 30 bytes: the key of the first is not whole
+    (
+        b"MVCCRUN1\x80\0\0\0\0\0\0\0\0\0\0\0\0\0\0\0\x01\0\0\0\x0ba",
+        FileKind::Short,
+        29,
+    ),
+    // a kind is judged when it is read
+    (
+        b"MVCCRUN1\0\0\0\0\0\0\0\x01\0\0\0\0\0\0\0\0\x02",
+        FileKind::Key,
+        24,
+    ),
+    (
+        b"MVCCRUN1\0\0\0\0\0\0\0\x01\0\0\0\0\0\0\0\0\0\0\0\0\x02a\x07",
+        FileKind::Key,
+        24,
+    ),
+    (
+        b"MVCCRUN1\0\0\0\0\0\0\0\x01\0\0\0\0\0\0\0\0\0\0\0\0\x01\0",
+        FileKind::Key,
+        24,
+    ),
+    // the record of a behind itself
+    (
+        b"MVCCRUN1\0\0\0\0\0\0\0\x02\0\0\0\0\0\0\0\0\0\0\0\0\x02a\0\0\0\0\0\x02a\0",
+        FileKind::Order,
+        31,
+    ),
+    // a key that is empty and not above the one before: by Key first
+    (
+        b"MVCCRUN1\0\0\0\0\0\0\0\x02\0\0\0\0\0\0\0\0\0\0\0\0\x02a\0\0\0\0\0\x01\0",
+        FileKind::Key,
+        31,
+    ),
+    // a value of 16,777,217 bytes, of which none is there: its length is judged first
+    (
+        b"MVCCRUN1\0\0\0\0\0\0\0\x01\0\0\0\0\0\0\0\0\x01\0\0\0\x02a\0\x01\0\0\x01",
+        FileKind::Value,
+        24,
+    ),
+    // a value of 16,777,216 bytes
+    (
+        b"MVCCRUN1\0\0\0\0\0\0\0\x01\0\0\0\0\0\0\0\0\x01\0\0\0\x02a\0\x01\0\0\0",
+        FileKind::Short,
+        35,
+    ),
+    // a key out of order with a value that is too long: by Order first
+    (
+        b"MVCCRUN1\0\0\0\0\0\0\0\x02\0\0\0\0\0\0\0\0\0\0\0\0\x02b\0\x01\0\0\0\x02a\0\x01\0\0\x01",
+        FileKind::Order,
+        31,
+    ),
+    (
+        b"MVCCRUN1\0\0\0\0\0\0\0\0\0\0\0\0\0\0\0\x01\x02",
+        FileKind::RangeOrder,
+        24,
+    ),
+    // a bound of 4,098 bytes, of which none is there
+    (
+        b"MVCCRUN1\0\0\0\0\0\0\0\0\0\0\0\0\0\0\0\x01\x01\0\0\x10\x02",
+        FileKind::RangeOrder,
+        24,
+    ),
+    // from a to a at 1: judged when the counter is whole, and before that Short
+    (
+        b"MVCCRUN1\0\0\0\0\0\0\0\0\0\0\0\0\0\0\0\x01\x01\0\0\0\x01a\0\0\0\x01a\0\0\0\0\0\0\0\x01\0\0\0\0",
+        FileKind::RangeOrder,
+        24,
+    ),
+    (
+        b"MVCCRUN1\0\0\0\0\0\0\0\0\0\0\0\0\0\0\0\x01\x01\0\0\0\x01a\0\0\0\x01a\0\0\0\0\0\0\0\x01\0\0\0",
+        FileKind::Short,
+        43,
+    ),
+    // no timestamp, and a wall time of 2^63
+    (
+        b"MVCCRUN1\0\0\0\0\0\0\0\0\0\0\0\0\0\0\0\x01\x01\0\0\0\x01a\0\0\0\x01b\0\0\0\0\0\0\0\0\0\0\0\0",
+        FileKind::RangeOrder,
+        24,
+    ),
+    (
+        b"MVCCRUN1\0\0\0\0\0\0\0\0\0\0\0\0\0\0\0\x01\x01\0\0\0\x01a\0\0\0\x01b\x80\0\0\0\0\0\0\0\0\0\0\0",
+        FileKind::RangeOrder,
+        24,
+    ),
+    (
+        b"MVCCRUN1\0\0\0\0\0\0\0\0\0\0\0\0\0\0\0\x01\0\0\0\0\x01a\0\0\0\x01b\0\0\0\0\0\0\0\x01\0\0\0\0\0",
+        FileKind::Trailing,
+        47,
+    ),
+    (
+        b"MVCCRUN1\0\0\0\0\0\0\0\0\0\0\0\0\0\0\0\0\0",
+        FileKind::Trailing,
+        24,
+    ),
+];
+
+#[test]
+fn the_first_fault_is_told(rt: HostRuntime) -> Result<(), Fail> {
+    for (bytes, kind, place) in CASES {
+        assert_eq!(rt;
+            fault_in(rt.alloc(), bytes),
+            fault(kind, place),
+            "in {bytes:?}"
+        );
+    }
+    Ok(())
+}
+
+fn point_op(
+    alloc: Global,
+    key: &[u8],
+    wall: u64,
+    value: Option<&[u8]>,
+) -> Result<PointOp, OutOfMemory> {
+    let ts = Timestamp::new(wall, 0).unwrap_or(Timestamp::NONE);
+    let value = match value {
+        Some(bytes) => Some(Bytes::copy(alloc, bytes)?),
+        None => None,
+    };
+    let key = Bytes::of(encode_key(alloc, key, ts)?);
+    Ok(PointOp { key, value })
+}
+
+/// The bytes of a record at the timestamp (2, 0).
+const RECORD: &[u8; 36] = b"012345678901234567890123\0\0\0\0\0\0\0\x02\0\0\0\0";
+
+/// The record of `a`, a clear of `a` at 9, and `b` at 5.
+const POINTS: &[u8; 108] = b"MVCCRUN1\0\0\0\0\0\0\0\x03\0\0\0\0\0\0\0\0\
+    \x01\0\0\0\x02a\0\0\0\0\x24012345678901234567890123\0\0\0\0\0\0\0\x02\0\0\0\0\
+    \0\0\0\0\x0ba\0\0\0\0\0\0\0\0\x09\x09\
+    \x01\0\0\0\x0bb\0\0\0\0\0\0\0\0\x05\x09\0\0\0\x01x";
+
+/// The same, and two range operations.
+const BUILT: &[u8; 154] = b"MVCCRUN1\0\0\0\0\0\0\0\x03\0\0\0\0\0\0\0\x02\
+    \x01\0\0\0\x02a\0\0\0\0\x24012345678901234567890123\0\0\0\0\0\0\0\x02\0\0\0\0\
+    \0\0\0\0\x0ba\0\0\0\0\0\0\0\0\x09\x09\
+    \x01\0\0\0\x0bb\0\0\0\0\0\0\0\0\x05\x09\0\0\0\x01x\
+    \x01\0\0\0\x01b\0\0\0\x01d\0\0\0\0\0\0\0\x04\0\0\0\x01\
+    \0\0\0\0\x01a\0\0\0\x01b\0\0\0\0\0\0\0\x03\0\0\0\0";
+
+/// What a cursor shows at a place: an encoded key, and a value where it is set.
+type State = (&'static [u8], Option<&'static [u8]>);
+
+const STATES: [State; 3] = [
+    (b"a\0", Some(RECORD)),
+    (b"a\0\0\0\0\0\0\0\0\x09\x09", None),
+    (b"b\0\0\0\0\0\0\0\0\x05\x09", Some(b"x")),
+];
+
+fn is_at<C: Cursor>(cursor: &C, state: Option<State>) -> bool {
+    match state {
+        Some((key, value)) => cursor.key() == Some(key) && cursor.value() == value,
+        None => cursor.key().is_none() && cursor.value().is_none(),
+    }
+}
+
+/// Whether a cursor comes to these states on its way to the end, and back.
+fn walks<L: Ledger>(run: &Run, states: &[State], blank: Blank) -> bool
+    requires name { blank.name ≡ L.name }
+    requires parts { blank.parts ≡ L.parts }
+    requires some { 0 < blank.parts }
+{
+    let mut steps = Steps::<L>::new(blank);
+    let mut cursor = run.cursor();
+    let mut walked = is_at(&cursor, None);
+    for state in states {
+        cursor.next(&mut steps);
+        walked = is_at(&cursor, Some(*state)) && walked;
+    }
+    cursor.next(&mut steps);
+    walked = is_at(&cursor, None) && walked;
+    for state in states.iter().rev() {
+        cursor.prev(&mut steps);
+        walked = is_at(&cursor, Some(*state)) && walked;
+    }
+    cursor.prev(&mut steps);
+    is_at(&cursor, None) && walked
+}
+
+/// Whether the run is the one that has these bytes.
+fn is_built(run: &Run) -> bool {
+    let set = match run.range_op(0) {
+        Some(op) => {
+            op.start == b"b".as_slice()
+                && op.end == b"d".as_slice()
+                && (op.ts.wall(), op.ts.logical()) == (4, 1)
+                && op.set == Some(b"".as_slice())
+        }
+        None => false,
+    };
+    let removed = match run.range_op(1) {
+        Some(op) => op.start == b"a".as_slice() && op.ts.wall() == 3 && op.set.is_none(),
+        None => false,
+    };
+    let times = match run.time_span() {
+        Some((least, greatest)) => least.wall() == 2 && greatest.wall() == 5,
+        None => false,
+    };
+    run.bytes() == BUILT.as_slice() && set && removed && times
+}
+
+#[test]
+fn what_is_built_is_read_again(rt: HostRuntime) -> Result<(), Fail> {
+    let alloc = rt.alloc();
+    let mut points = Rising::new(alloc);
+    assert!(rt; points.push(point_op(alloc, b"a", 0, Some(RECORD))?)?);
+    assert!(rt; points.push(point_op(alloc, b"a", 9, None)?)?);
+    assert!(rt; points.push(point_op(alloc, b"b", 5, Some(b"x"))?)?);
+    let run = build(alloc, points.as_slice(), &[])?;
+    assert_eq!(rt; run.bytes(), POINTS.as_slice());
+    assert!(rt; walks::<Brand>(&run, &STATES, Blank::new(1)));
+    assert!(rt; run.range_op(0).is_none());
+    assert_eq!(rt; parse(alloc, run.bytes())?.len(), 3);
+    Ok(())
+}
+
+#[test]
+fn range_operations_are_read(rt: HostRuntime) -> Result<(), Fail> {
+    let run = parse(rt.alloc(), BUILT)?;
+    assert_eq!(rt; (run.len(), run.range_len(), run.is_empty()), (3, 2, false));
+    assert!(rt; is_built(&run));
+    assert!(rt; run.range_op(2).is_none());
+    assert!(rt; walks::<Brand>(&run, &STATES, Blank::new(1)));
+    Ok(())
+}
+
+#[test]
+fn a_file_is_read(rt: HostRuntime) -> Result<(), Fail> {
+    let run = parse(rt.alloc(), FILE)?;
+    let ts = Timestamp::new(1_000_000_000, 0);
+    assert_eq!(rt; run.time_span(), ts.zip(ts));
+    let states: [State; 1] = [(b"a\0\0\0\0\0\x3b\x9a\xca\0\x09", Some(b"\0\0\0\0\x03abc"))];
+    assert!(rt; walks::<Brand>(&run, &states, Blank::new(1)));
+    let empty = parse(rt.alloc(), b"MVCCRUN1\0\0\0\0\0\0\0\0\0\0\0\0\0\0\0\0")?;
+    assert!(rt; empty.is_empty() && empty.time_span().is_none());
+    laws_of_runs();
+    Ok(())
+}
+
+#[test]
+fn faults_are_told(rt: HostRuntime) -> Result<(), Fail> {
+    let fault = ParseFault::from(RunFault {
+        kind: FileKind::Order,
+        place: 31,
+    });
+    let text = fault.to_string(rt.alloc())?;
+    assert_eq!(rt;
+        text.as_str(),
+        "a point is not above the one before it, at byte 31"
+    );
+    let text = ParseFault::from(OutOfMemory).to_string(rt.alloc())?;
+    assert_eq!(rt; text.as_str(), "out of memory");
+    Ok(())
+}
