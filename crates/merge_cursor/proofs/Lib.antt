@@ -1,0 +1,13 @@
+pub mod OrderLaws
+pub mod LeadingLaws
+pub mod HeadLaws
+pub mod MoveLaws
+pub mod PassLaws
+pub mod CutLaws
+pub mod AgreeLaws
+pub mod MergedLaws
+pub mod SettleLaws
+pub mod ShownLaws
+pub mod StepLaws
+pub mod MergeLaws
+pub mod VisibleLaws

@@ -1,0 +1,60 @@
+use Rattle.std.proofs.Common.{length, sym, ◌∙◌, arith}
+use Rattle.std.proofs.lemmas.List.{length-map}
+use Rattle.merge_cursor.specs.Standing.{standing, standings}
+use Rattle.merge_cursor.proofs.ShownLaws.{rising-standings}
+use Rattle.merge_cursor.proofs.StepLaws.{current_none, some_none, turns-on, stays-on, leaves-on, none_newer, leaves-looks, stays-looks, turn-some, pass-some}
+use Rattle.merge_cursor.proofs.step.go_on.Goals as goal
+
+pub returns-then-not-ahead-clause-parts : goal.returns-then-not-ahead-clause-parts
+returns-then-not-ahead-clause-parts g c =
+    c.move_all.ensures.parts
+    ∙ turns-on c.args.ahead (standings g.C.Cursor.points g.C.Cursor.place g.C.Cursor.is_part c.args.parts.now) c.args.current c.if-not-ahead.true c.requires
+
+pub returns-then-not-ahead-clause-some : goal.returns-then-not-ahead-clause-some
+returns-then-not-ahead-clause-some g c = λ some.
+    c.move_all.ensures.some (turn-some (standings g.C.Cursor.points g.C.Cursor.place g.C.Cursor.is_part c.args.parts.now) c.args.current some).0
+
+pub returns-then-current-parts-clause-parts : goal.returns-then-current-parts-clause-parts
+returns-then-current-parts-clause-parts g c =
+    let all = standings g.C.Cursor.points g.C.Cursor.place g.C.Cursor.is_part c.args.parts.now in
+    let long = length-map c.args.parts.now (standing g.C.Cursor.points g.C.Cursor.place g.C.Cursor.is_part) in
+    stays-on c.args.ahead all c.args.current c.if-not-ahead.false (current_none all c.args.current (length c.args.parts.now) (sym long) c.if-current-parts.true) c.requires
+
+pub returns-then-current-parts-clause-some : goal.returns-then-current-parts-clause-some
+returns-then-current-parts-clause-some g c = λ some.
+    let all = standings g.C.Cursor.points g.C.Cursor.place g.C.Cursor.is_part c.args.parts.now in
+    let long = length-map c.args.parts.now (standing g.C.Cursor.points g.C.Cursor.place g.C.Cursor.is_part) in
+    absurd (some_none _ (current_none all c.args.current (length c.args.parts.now) (sym long) c.if-current-parts.true) some)
+
+pub returns-then-current-parts-clause-looks : goal.returns-then-current-parts-clause-looks
+returns-then-current-parts-clause-looks g c = λ on are.
+    let all = standings g.C.Cursor.points g.C.Cursor.place g.C.Cursor.is_part c.args.parts.now in
+    let long = length-map c.args.parts.now (standing g.C.Cursor.points g.C.Cursor.place g.C.Cursor.is_part) in
+    stays-looks all c.args.current c.args.steps.now (current_none all c.args.current (length c.args.parts.now) (sym long) c.if-current-parts.true)
+
+pub pass-requires-clause-newest : goal.pass-requires-clause-newest
+pass-requires-clause-newest g c = λ p at.
+    none_newer c.args.ahead (standings g.C.Cursor.points g.C.Cursor.place g.C.Cursor.is_part c.args.parts.now) c.args.current p c.requires at
+
+pub returns-clause-parts : goal.returns-clause-parts
+returns-clause-parts g c =
+    let all = standings g.C.Cursor.points g.C.Cursor.place g.C.Cursor.is_part c.args.parts.now in
+    let long = length-map c.args.parts.now (standing g.C.Cursor.points g.C.Cursor.place g.C.Cursor.is_part) in
+    let within = c.requires.within in
+    let differs = c.if-current-parts.false in
+    leaves-on c.args.ahead all c.args.current (standings g.C.Cursor.points g.C.Cursor.place g.C.Cursor.is_part c.pass.new.parts) c.if-not-ahead.false
+    (rising-standings g.C.Cursor.points g.C.Cursor.place g.C.Cursor.is_part c.args.parts.now g.met.C.Cursor.rising) c.requires (c.requires.some (omega arith)) c.pass.ensures.parts
+
+pub returns-clause-some : goal.returns-clause-some
+returns-clause-some g c = λ some.
+    let here = pass-some (standings g.C.Cursor.points g.C.Cursor.place g.C.Cursor.is_part c.args.parts.now) c.args.current some in
+    c.pass.ensures.some here.0 here.1 here.2
+
+pub returns-clause-looks : goal.returns-clause-looks
+returns-clause-looks g c = λ on are.
+    let all = standings g.C.Cursor.points g.C.Cursor.place g.C.Cursor.is_part c.args.parts.now in
+    let long = length-map c.args.parts.now (standing g.C.Cursor.points g.C.Cursor.place g.C.Cursor.is_part) in
+    let within = c.requires.within in
+    let differs = c.if-current-parts.false in
+    leaves-looks c.args.ahead all c.args.current c.args.steps.now c.pass.new.steps c.if-not-ahead.false
+    (rising-standings g.C.Cursor.points g.C.Cursor.place g.C.Cursor.is_part c.args.parts.now g.met.C.Cursor.rising) c.requires (c.requires.some (omega arith)) (λ p at. c.pass.ensures.looks p at are)

@@ -1,0 +1,6 @@
+pub mod Merged
+pub mod Standing
+pub mod Moves
+pub mod Seen
+pub mod Visible
+pub mod SeenVisible
