@@ -9,7 +9,7 @@ use Rattle.std.specs.Ordering.{match_ordering}
 use Rattle.std.specs.Cmp.{IsTotalOrder}
 use Rattle.std.proofs.lemmas.Cmp.{on_total}
 use Rattle.std.proofs.lemmas.List.{map-append}
-use Rattle.std.proofs.lemmas.List.Elements.{All-from_recursion, All-head, All-tail}
+use Rattle.std.proofs.lemmas.List.Elements.{All-from_recursion, All-head, All-tail, All-map, All-weaker}
 use Rattle.mvcc_key.specs.Lists.{put_in_order, in_order}
 use Rattle.mvcc_key.specs.Points.{Point, point_cmp, AreEncodable}
 use Rattle.mvcc_key.specs.SeenPoint.{point_of, points_of, AreNamed}
@@ -18,7 +18,8 @@ use Rattle.mvcc_key.proofs.OrderLaws.{name_cmp-total}
 use Rattle.mvcc_key.proofs.SortedLaws.{in_order-sorted}
 use Rattle.mvcc_key.proofs.PointLaws.{sorted-rising, rising-sorted}
 use Rattle.mvcc_key.proofs.SeenPointLaws.{encodable-named}
-use Rattle.mem_table.specs.Entries.{IsStorable, AreEntries}
+use Rattle.mvcc_key.proofs.NamedLaws.{named_range}
+use Rattle.mem_table.specs.Entries.{IsStorable, AreEntries, IsStoredPoint}
 use Rattle.mem_table.specs.Places.{name_of_op, op_cmp, newest_ops}
 use Rattle.mem_table.proofs.OrderedLaws.{each_at, each_append, each_take, each_front, sorted_take, sorted_front, each-in_order}
 
@@ -50,7 +51,7 @@ seen_sorted (op ∷ ops) s = (seen_each op ops s.0, seen_sorted ops s.1)
 -- ---- entries
 
 -- what holds of all, by recursion
-each_of_all : {X : Type 0} (P : X → Type 0) (xs : List X) → All P xs → AllByRecursion P xs
+pub each_of_all : {X : Type 0} (P : X → Type 0) (xs : List X) → All P xs → AllByRecursion P xs
 each_of_all P [] h = tt
 each_of_all P (x ∷ xs) h = (All-head P x xs h, each_of_all P xs (All-tail P x xs h))
 
@@ -73,6 +74,14 @@ named-entries ops e i op is = (each_at IsStorable ops i op (each-entries ops e) 
 -- their points have encodings
 pub encodable-entries : (ops : List PointOp) → AreEntries ops → AreEncodable (points_of ops)
 encodable-entries ops e = encodable-named ops (named-entries ops e)
+
+-- a storable operation is a stored point
+pub stored_point : (op : PointOp) → IsStorable op → IsStoredPoint (point_of op)
+stored_point op h = record { some = h.some; short = h.short; range = named_range op.key h.name.read; value = h.value }
+
+-- the points of entries are stored points
+pub stored-entries : (ops : List PointOp) → AreEntries ops → All IsStoredPoint (points_of ops)
+stored-entries ops e = All-map IsStoredPoint point_of ops (All-weaker IsStorable (λ op. IsStoredPoint (point_of op)) stored_point ops e.storable)
 
 -- the front of entries
 pub entries-take : (n : ℕ) (ops : List PointOp) → AreEntries ops → AreEntries (take n ops)

@@ -4,3 +4,7 @@ pub mod RangeLaws
 pub mod MoveLaws
 pub mod StepLaws
 pub mod StateLaws
+pub mod NumberLaws
+pub mod ListedLaws
+pub mod MergeLaws
+pub mod OneLaws

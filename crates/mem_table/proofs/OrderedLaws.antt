@@ -137,7 +137,7 @@ module _ {X : Type 0} {cmp : X → X → Ordering} (total : IsTotalOrder cmp) wh
     pub above : AllByRecursion (λ y. cmp x y ≡ Less) (drop high xs)
 
   -- the place of one element
-  put-range : (x : X) (xs : List X) (low high : ℕ) → IsRange x xs low high → put_in_order cmp x xs ≡ take low xs ++ x ∷ drop high xs
+  pub put-range : (x : X) (xs : List X) (low high : ℕ) → IsRange x xs low high → put_in_order cmp x xs ≡ take low xs ++ x ∷ drop high xs
   put-range x xs zero zero r = put_first x xs r.above
   put-range x [] zero (suc high) r = absurd (omega (arith, r.within))
   put-range x (y ∷ ys) zero (suc zero) r = (let tied : cmp x y ≡ Equal = r.tied (omega arith) y refl in rw tied refl)

@@ -1,5 +1,5 @@
 -- Where a name stands among operations in order, and operations merged.
-use Rattle.std.specs.Prelude.{◌≡◌, ℕ, ◌+◌, ◌<◌, ◌≤◌, List, ◌++◌, length, take, drop, slice_get, Some}
+use Rattle.std.specs.Prelude.{◌≡◌, ◌≢◌, ℕ, ◌+◌, ◌<◌, ◌≤◌, List, [], ◌++◌, length, map, take, drop, slice_get, slice_index_or, Some, None, All}
 use Rattle.std.specs.List.{AllByRecursion}
 use Rattle.std.specs.declared.cmp.Ordering.{Ordering}
 use Rattle.std.specs.declared.cmp.Ordering.TheVariants.{Less, Equal}
@@ -29,3 +29,21 @@ pub record IsRangeOf (name : Name) (ops : List PointOp) (low high : ℕ) : Type 
   pub below : AllByRecursion (λ op. name_cmp (name_of_op op) name ≡ Less) (take low ops)
   pub tied : low < high → (op : PointOp) → slice_get ops low ≡ Some op → name_cmp name (name_of_op op) ≡ Equal
   pub above : AllByRecursion (λ op. name_cmp name (name_of_op op) ≡ Less) (drop high ops)
+
+-- an operation under no name, read where a number has none
+abbrev pub no_op : PointOp
+no_op = record { key = []; value = None }
+
+-- each is the number of an operation
+abbrev pub AreNumbersOf : List PointOp → List ℕ → Type 0
+AreNumbersOf ops = All (λ number. number < length ops)
+
+-- the operations with these numbers, in their order
+abbrev pub listed : List PointOp → List ℕ → List PointOp
+listed ops = map (λ number. slice_index_or ops number no_op)
+
+-- the number has this operation now, and each other keeps its own
+pub record IsStored (op : PointOp) (number : ℕ) (old new : List PointOp) : Type 0 where
+  pub longer : length old ≤ length new
+  pub here : slice_get new number ≡ Some op
+  pub others : (n : ℕ) → n < length old → n ≢ number → slice_get new n ≡ slice_get old n

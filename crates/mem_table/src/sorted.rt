@@ -1,68 +1,82 @@
 //! Point operations in order.
-ghost use Rattle.std.specs.Prelude.{◌≡◌, [], OnOk, OnErr};
+ghost use Rattle.std.specs.Prelude.{◌≡◌, ◌↔◌, [], OnOk, OnErr, IsTrue, vec_len};
 ghost use Rattle.mvcc_key.specs.Points.{AreEncodable};
 ghost use Rattle.mvcc_key.specs.SeenPoint.{points_of};
 ghost use Rattle.mem_table.specs.Entries.{AreEntries};
+ghost use Rattle.mem_table.specs.Places.{listed, AreNumbersOf};
 
 use crate::merge::merge;
+use crate::place::op_at;
 use mvcc_key::{OutOfMemory, PointOp, SortedPairs};
 use std::alloc::Global;
 
-/// The point operations of a memory table: each name once, in order.
+/// The point operations of a memory table: each name once, in order. A name keeps its number, so that a new one among them
+/// moves numbers and no operation.
+///
+/// After b, a and c, each in a batch of its own, and then a newer b, the operations are the newer b, a and c, and the order of
+/// their names is 1, 0, 2.
 #[derive(Drop)]
 pub struct SortedOps {
-    held: Vec<PointOp>,
-    ghost entries: { AreEntries held.items },
-    ghost encodable: { AreEncodable (points_of held.items) },
+    /// The operations, each at the number that its name got when it came.
+    ops: Vec<PointOp>,
+    /// Their numbers in the order of names.
+    order: Vec<u32>,
+    ghost count: { vec_len order ≡ vec_len ops },
+    ghost numbers: { AreNumbersOf ops.items order.items },
+    ghost entries: { AreEntries (listed ops.items order.items) },
+    ghost encodable: { AreEncodable (points_of (listed ops.items order.items)) },
 }
 
 impl SortedOps {
     ghost use Rattle.mem_table.specs.Places.{newest_ops};
+    ghost use Rattle.mem_table.specs.Seen.{ops_held};
 
     /// No operations. This takes no memory.
     pub(crate) fn new(alloc: Global) -> SortedOps
-        ensures { result.held.items ≡ [] }
+        ensures { ops_held result ≡ [] }
     {
         SortedOps {
-            held: Vec::new(alloc),
+            ops: Vec::new(alloc),
+            order: Vec::new(alloc),
         }
     }
 
-    /// The operations.
-    pub(crate) fn as_slice(&self) -> &[PointOp]
-        ensures value { result.now ≡ self.now.held.items }
-        ensures entries { AreEntries result.now }
+    /// Whether there is no operation.
+    pub(crate) fn is_empty(&self) -> bool
+        ensures { IsTrue result ↔ (ops_held self.now ≡ []) }
     {
-        self.held.as_slice()
+        self.order.is_empty()
     }
 
     /// Takes newer operations up.
     pub(crate) fn apply(&mut self, newer: Vec<PointOp>) -> Result<(), OutOfMemory>
         requires { AreEntries newer.items }
-        ensures ok { OnOk result (self.new.held.items ≡ newest_ops newer.items self.old.held.items) }
-        ensures err { OnErr result (self.new.held.items ≡ self.old.held.items) }
+        ensures ok { OnOk result (ops_held self.new ≡ newest_ops newer.items (ops_held self.old)) }
+        ensures err { OnErr result (ops_held self.new ≡ ops_held self.old) }
     {
-        merge(&mut self.held, newer)
+        merge(&mut self.ops, &mut self.order, newer)
     }
 }
 
 impl SortedPairs for SortedOps {
-    ghost points = { λ s. points_of s.held.items };
+    ghost use Rattle.mem_table.specs.Seen.{points_held};
+
+    ghost points = { points_held };
 
     ghost rising = { λ s. s.entries.rising };
 
     ghost encodable = { λ s. s.encodable };
 
     fn len(&self) -> usize {
-        self.held.len()
+        self.order.len()
     }
 
     fn key(&self, index: usize) -> &[u8] {
-        self.held[index].key.as_slice()
+        op_at(&self.ops, &self.order, index).key.as_slice()
     }
 
     fn value(&self, index: usize) -> Option<&[u8]> {
-        match &self.held[index].value {
+        match &op_at(&self.ops, &self.order, index).value {
             Some(value) => Some(value.as_slice()),
             None => None,
         }

@@ -1,11 +1,11 @@
 //! The memory table.
-ghost use Rattle.std.specs.Prelude.{◌≡◌, OnOk, OnErr, IsTrue};
+ghost use Rattle.std.specs.Prelude.{◌≡◌, ◌↔◌, [], length, All, OnOk, OnErr, IsTrue};
 ghost use Rattle.mvcc_key.specs.SeenPoint.{points_of};
-ghost use Rattle.mem_table.specs.Entries.{AreEntries, IsBatch};
+ghost use Rattle.mem_table.specs.Entries.{IsBatch, IsStoredPoint};
 ghost use Rattle.mem_table.specs.Table.{empty_table, after_batch, ShowsNewest};
 
 use crate::SortedOps;
-use mvcc_key::{Batch, Cursor, OutOfMemory, PairsCursor, PointOp, RangeOp};
+use mvcc_key::{Batch, Cursor, OutOfMemory, PairsCursor, RangeOp, SortedPairs};
 use std::alloc::Global;
 use std::marker::Model;
 
@@ -23,12 +23,12 @@ pub struct MemTable {
 }
 
 impl Model for MemTable {
-    ghost use Rattle.mvcc_key.specs.SeenPoint.{points_of};
     ghost use Rattle.mem_table.specs.Table.{Table};
+    ghost use Rattle.mem_table.specs.Seen.{points_held};
 
     ghost Value = { Table };
 
-    ghost view = { λ t. record { points = points_of t.points.held.items; ranges = t.ranges.items } };
+    ghost view = { λ t. record { points = points_held t.points; ranges = t.ranges.items } };
 }
 
 impl MemTable {
@@ -53,21 +53,28 @@ impl MemTable {
         self.points.apply(batch.points.into_vec())
     }
 
+    /// How many points there are, cleared names among them.
+    pub fn len(&self) -> usize
+        ensures { result ≡ length self.now.points }
+    {
+        self.points.len()
+    }
+
+    /// Whether the table has no point.
+    pub fn is_empty(&self) -> bool
+        ensures { IsTrue result ↔ (self.now.points ≡ []) }
+    {
+        self.points.is_empty()
+    }
+
     /// A cursor before the first point.
     pub fn cursor<'a>(&'a self) -> MemCursor<'a>
         ensures points { ⟦<MemCursor<'a> as Cursor>⟧.points result ≡ self.now.points }
         ensures place { ⟦<MemCursor<'a> as Cursor>⟧.place result ≡ 0 }
         ensures part { IsTrue (⟦<MemCursor<'a> as Cursor>⟧.is_part result) }
+        ensures stored { All IsStoredPoint self.now.points }
     {
         PairsCursor::over(&self.points)
-    }
-
-    /// The operations on points that the table stands for, in order, cleared names among them.
-    pub fn point_ops(&self) -> &[PointOp]
-        ensures points { points_of result.now ≡ self.now.points }
-        ensures entries { AreEntries result.now }
-    {
-        self.points.as_slice()
     }
 
     /// The range operations in the order in which they came. There are none yet, since no batch has one.

@@ -15,7 +15,8 @@ use Rattle.mvcc_key.specs.Points.{Point, point_cmp, IsRising}
 use Rattle.mvcc_key.proofs.OrderLaws.{name_cmp-total}
 use Rattle.mvcc_key.proofs.PointLaws.{rising_rest, rising-sorted}
 use Rattle.run_block.specs.RunFormat.{RangeOp, Run, is_next}
-use Rattle.run_block.specs.Runs.{IsStoredPoint, IsStoredRange, IsRun, BytesAreRead, ReadBytesAreOfRun}
+use Rattle.run_block.specs.Runs.{IsStoredRange, IsRun, BytesAreRead, ReadBytesAreOfRun}
+use Rattle.mem_table.specs.Entries.{IsStoredPoint}
 use Rattle.run_block.proofs.RunLaws.{IsPointValue, AreRunPoints, IsRangeValue, AreRunRanges, IsReadable, IsSpelled-run_of, run_of-run_bytes}
 
 -- ---- from each to one after another

@@ -1,8 +1,11 @@
+pub mod AddingLaws
 pub mod BuildLaws
 pub mod FormLaws
+pub mod HeadLaws
 pub mod IndexLaws
 pub mod ReadingLaws
 pub mod RunLaws
+pub mod ShownLaws
 pub mod SpanLaws
 pub mod TimeLaws
 pub mod WholeLaws

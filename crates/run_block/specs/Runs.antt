@@ -1,18 +1,11 @@
 -- What holds of each run that has bytes, and the laws of its bytes.
 use Rattle.std.specs.Prelude.{◌≡◌, ℕ, ◌^◌, ◌<◌, ◌≤◌, true, List, [], length, All, Ok}
 use Rattle.std.specs.Option.{ForSome}
-use Rattle.mvcc_key.specs.Order.{is_in_range}
-use Rattle.mvcc_key.specs.Limits.{max_key_length, max_bound_length, max_stored_length}
+use Rattle.mvcc_key.specs.Limits.{max_bound_length}
 use Rattle.mvcc_key.specs.Encoded.{IsBytes}
-use Rattle.mvcc_key.specs.Points.{Point, IsRising}
+use Rattle.mvcc_key.specs.Points.{IsRising}
+use Rattle.mem_table.specs.Entries.{IsStoredPoint}
 use Rattle.run_block.specs.RunFormat.{RangeOp, is_range_op, Run, run_bytes, run_of}
-
--- its key has 1 to 4,096 bytes, its timestamp is in range, and its value has at most 16,777,216 bytes
-pub record IsStoredPoint (p : Point) : Type 0 where
-  pub some : 1 ≤ length p.name.key
-  pub short : length p.name.key ≤ max_key_length
-  pub range : is_in_range p.name.ts ≡ true
-  pub value : ForSome p.value (λ v. length v ≤ max_stored_length)
 
 -- its bounds have at most 4,097 bytes, it is a span at a timestamp, and where it sets its value is empty
 pub record IsStoredRange (r : RangeOp) : Type 0 where

@@ -1,5 +1,5 @@
 //! From operations to a run.
-ghost use Rattle.std.specs.Prelude.{◌≡◌, ◌≤◌, ◌<◌, ◌+◌, ◌^◌, ◌++◌, [], Ok, length, All, IfOk, OnOk, IfSome, vec_len, vec_capacity};
+ghost use Rattle.std.specs.Prelude.{◌≡◌, ◌<◌, ◌+◌, ◌^◌, ◌++◌, [], Ok, length, All, IfOk, OnOk, IfSome};
 ghost use Rattle.std.specs.List.{flat_map};
 ghost use Rattle.mvcc_key.specs.Encoded.{IsName};
 ghost use Rattle.mvcc_key.specs.SeenPoint.{point_of, points_of};
@@ -11,8 +11,9 @@ ghost use Rattle.run_block.specs.Places.{IsIndex, points_in, run_in};
 ghost use Rattle.run_block.specs.SeenRange.{range_of, ranges_of};
 
 use crate::Run;
+use crate::adding::{add_point, add_range};
 use crate::index::Index;
-use crate::write::{put_head, put_point, put_range};
+use crate::write::{HEAD_LEN, lent, put_head};
 use mvcc_key::{Bytes, OutOfMemory, PointOp, RangeOp};
 use std::alloc::Global;
 
@@ -30,36 +31,32 @@ pub fn build(alloc: Global, points: &[PointOp], ranges: &[RangeOp]) -> Result<Ru
     };
     let mut bytes = Vec::with_capacity(alloc, len)?;
     let mut index = Index::with_room(alloc, points.len(), ranges.len())?;
-    put_head(&mut bytes, points.len(), ranges.len());
+    put_head(&mut bytes, points.len(), ranges.len())?;
     put_points(&mut bytes, points, &mut index)?;
     put_ranges(&mut bytes, ranges, &mut index)?;
     Ok(Run::of(bytes, index))
 }
 
-/// Puts the points, where there is room, and takes up where they lie.
+/// Puts the points, and takes up where they lie.
 fn put_points(out: &mut Vec<u8>, points: &[PointOp], index: &mut Index) -> Result<(), OutOfMemory>
     requires entries { AreEntries points.now }
-    requires room { vec_len out.old + length (flat_map point_bytes (points_of points.now)) ≤ vec_capacity out.old }
     requires index { IsIndex out.old.items index.old }
     requires no_points { index.old.points.items ≡ [] }
     requires no_ranges { index.old.ranges.items ≡ [] }
     ensures items { OnOk result (out.new.items ≡ out.old.items ++ flat_map point_bytes (points_of points.now)) }
-    ensures room { OnOk result (vec_capacity out.old ≤ vec_capacity out.new) }
     ensures index { OnOk result (IsIndex out.new.items index.new) }
     ensures points { OnOk result (points_in out.new.items index.new.points.items ≡ points_of points.now) }
     ensures ranges { OnOk result (index.new.ranges.items ≡ []) }
 {
     for op in points {
-        let place = put_point(out, op);
-        index.add_point(out.as_slice(), place)?;
+        add_point(out, index, op.key.as_slice(), lent(&op.value))?;
     }
     Ok(())
 }
 
-/// Puts the range operations, where there is room, and takes up where they lie.
+/// Puts the range operations, and takes up where they lie.
 fn put_ranges(out: &mut Vec<u8>, ranges: &[RangeOp], index: &mut Index) -> Result<(), OutOfMemory>
     requires entries { All IsStorableRange ranges.now }
-    requires room { vec_len out.old + length (flat_map range_bytes (ranges_of ranges.now)) ≤ vec_capacity out.old }
     requires index { IsIndex out.old.items index.old }
     requires no_ranges { index.old.ranges.items ≡ [] }
     ensures items { OnOk result (out.new.items ≡ out.old.items ++ flat_map range_bytes (ranges_of ranges.now)) }
@@ -68,14 +65,10 @@ fn put_ranges(out: &mut Vec<u8>, ranges: &[RangeOp], index: &mut Index) -> Resul
         ≡ record { points = points_in out.old.items index.old.points.items; ranges = ranges_of ranges.now }) }
 {
     for op in ranges {
-        let place = put_range(out, op);
-        index.add_range(place)?;
+        add_range(out, index, op)?;
     }
     Ok(())
 }
-
-/// How many bytes stand before the first entry: the magic and the counts.
-const HEAD_LEN: usize = 24;
 
 /// How many bytes a point has before its key, and its value before that: the length, and with the key the kind.
 const KEY_HEAD_LEN: usize = 5;

@@ -1,7 +1,9 @@
 //! Sorted runs: points and range operations in the bytes of a file, which are not changed.
 #![tactic(auto)]
 
+mod adding;
 mod building;
+mod collecting;
 mod entry;
 mod fault;
 mod index;
@@ -18,6 +20,7 @@ mod time;
 mod write;
 
 pub use building::build;
+pub use collecting::collect;
 pub use fault::{FileKind, ParseFault, RunFault};
 pub use laws::laws_of_runs;
 pub use parsing::parse;

@@ -1,7 +1,8 @@
 //! A sorted run.
-ghost use Rattle.std.specs.Prelude.{ℕ, ◌≡◌, ◌↔◌, ◌+◌, [], length, IsTrue, IsNone, IfSome, slice_get};
+ghost use Rattle.std.specs.Prelude.{ℕ, ◌≡◌, ◌↔◌, ◌+◌, [], length, IsTrue, IsNone, IfSome, All, slice_get};
 ghost use Rattle.std.specs.Option.{option_map};
 ghost use Rattle.mvcc_key.specs.Seen.{time_of};
+ghost use Rattle.mem_table.specs.Entries.{IsStoredPoint};
 ghost use Rattle.run_block.specs.RunFormat as words;
 ghost use Rattle.run_block.specs.Runs.{IsRun, IsRunOf};
 ghost use Rattle.run_block.specs.SeenRange.{lent_range};
@@ -90,6 +91,7 @@ impl Run {
     /// A cursor before the first point.
     pub fn cursor<'a>(&'a self) -> RunCursor<'a>
         ensures points { ⟦<RunCursor<'a> as Cursor>⟧.points result ≡ self.now.points }
+        ensures stored { All IsStoredPoint self.now.points }
         ensures place { ⟦<RunCursor<'a> as Cursor>⟧.place result ≡ 0 }
         ensures part { IsTrue (⟦<RunCursor<'a> as Cursor>⟧.is_part result) }
     {

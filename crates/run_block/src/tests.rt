@@ -3,6 +3,7 @@ ghost use Rattle.std.specs.Prelude.{◌≡◌, ◌<◌};
 mod rising;
 
 use super::*;
+use mem_table::MemTable;
 use mvcc_key::{Bytes, Cursor, OutOfMemory, PointOp, Steps, Timestamp, encode_key};
 use rising::Rising;
 use std::alloc::Global;
@@ -204,6 +205,9 @@ const BUILT: &[u8; 154] = b"MVCCRUN1\0\0\0\0\0\0\0\x03\0\0\0\0\0\0\0\x02\
     \x01\0\0\0\x01b\0\0\0\x01d\0\0\0\0\0\0\0\x04\0\0\0\x01\
     \0\0\0\0\x01a\0\0\0\x01b\0\0\0\0\0\0\0\x03\0\0\0\0";
 
+/// No entry.
+const NONE: &[u8; 24] = b"MVCCRUN1\0\0\0\0\0\0\0\0\0\0\0\0\0\0\0\0";
+
 /// What a cursor shows at a place: an encoded key, and a value where it is set.
 type State = (&'static [u8], Option<&'static [u8]>);
 
@@ -265,18 +269,57 @@ fn is_built(run: &Run) -> bool {
     run.bytes() == BUILT.as_slice() && set && removed && times
 }
 
+/// The record of `a`, a clear of `a` at 9, and `b` at 5.
+fn three_points(alloc: Global) -> Result<Rising, OutOfMemory> {
+    let mut points = Rising::new(alloc);
+    let _ = points.push(point_op(alloc, b"a", 0, Some(RECORD))?)?;
+    let _ = points.push(point_op(alloc, b"a", 9, None)?)?;
+    let _ = points.push(point_op(alloc, b"b", 5, Some(b"x"))?)?;
+    Ok(points)
+}
+
 #[test]
 fn what_is_built_is_read_again(rt: HostRuntime) -> Result<(), Fail> {
     let alloc = rt.alloc();
-    let mut points = Rising::new(alloc);
-    assert!(rt; points.push(point_op(alloc, b"a", 0, Some(RECORD))?)?);
-    assert!(rt; points.push(point_op(alloc, b"a", 9, None)?)?);
-    assert!(rt; points.push(point_op(alloc, b"b", 5, Some(b"x"))?)?);
-    let run = build(alloc, points.as_slice(), &[])?;
+    let run = build(alloc, three_points(alloc)?.as_slice(), &[])?;
     assert_eq!(rt; run.bytes(), POINTS.as_slice());
     assert!(rt; walks::<Brand>(&run, &STATES, Blank::new(1)));
     assert!(rt; run.range_op(0).is_none());
     assert_eq!(rt; parse(alloc, run.bytes())?.len(), 3);
+    Ok(())
+}
+
+/// Whether the points of a table are collected to the run that is built of them, which has the bytes of the three.
+fn is_collected(alloc: Global, table: &MemTable, room: usize) -> Result<bool, OutOfMemory> {
+    let run = collect(alloc, &mut table.cursor(), room)?;
+    let times = run.time_span().map(|span| (span.0.wall(), span.1.wall()));
+    Ok(run.bytes() == POINTS.as_slice() && times == Some((2, 5)))
+}
+
+#[test]
+fn a_table_is_collected(rt: HostRuntime) -> Result<(), Fail> {
+    let alloc = rt.alloc();
+    let mut table = MemTable::new(alloc);
+    table.apply(three_points(alloc)?.into_batch(alloc))?;
+    for room in [0, 7, 84, 1000] {
+        assert!(rt; is_collected(alloc, &table, room)?, "with room {room}");
+    }
+    assert!(rt; is_collected(alloc, &table, usize::MAX).is_err());
+    Ok(())
+}
+
+#[test]
+fn the_points_of_a_run_are_collected_again(rt: HostRuntime) -> Result<(), Fail> {
+    let alloc = rt.alloc();
+    let built = parse(alloc, BUILT)?;
+    let run = collect(alloc, &mut built.cursor(), 0)?;
+    assert_eq!(rt; run.bytes(), POINTS.as_slice());
+    assert!(rt; walks::<Brand>(&run, &STATES, Blank::new(1)));
+    let empty = parse(alloc, NONE)?;
+    assert_eq!(rt;
+        collect(alloc, &mut empty.cursor(), 0)?.bytes(),
+        NONE.as_slice()
+    );
     Ok(())
 }
 
@@ -297,7 +340,7 @@ fn a_file_is_read(rt: HostRuntime) -> Result<(), Fail> {
     assert_eq!(rt; run.time_span(), ts.zip(ts));
     let states: [State; 1] = [(b"a\0\0\0\0\0\x3b\x9a\xca\0\x09", Some(b"\0\0\0\0\x03abc"))];
     assert!(rt; walks::<Brand>(&run, &states, Blank::new(1)));
-    let empty = parse(rt.alloc(), b"MVCCRUN1\0\0\0\0\0\0\0\0\0\0\0\0\0\0\0\0")?;
+    let empty = parse(rt.alloc(), NONE)?;
     assert!(rt; empty.is_empty() && empty.time_span().is_none());
     laws_of_runs();
     Ok(())

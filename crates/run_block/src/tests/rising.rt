@@ -6,9 +6,9 @@ ghost use Rattle.mvcc_key.specs.Order.{name_cmp};
 ghost use Rattle.mvcc_key.specs.KeyFormat.{name_of};
 ghost use Rattle.mvcc_key.specs.Encoded.{name_in};
 ghost use Rattle.mvcc_key.specs.SeenPoint.{AreNamed, IsAboveLast};
-ghost use Rattle.mem_table.specs.Entries.{AreEntries, IsStorable};
+ghost use Rattle.mem_table.specs.Entries.{AreEntries, IsStorable, IsBatch};
 
-use mvcc_key::{OutOfMemory, PointOp, cmp_encoded, decode_key};
+use mvcc_key::{Batch, Items, OutOfMemory, PointOp, cmp_encoded, decode_key};
 use std::alloc::Global;
 use std::cmp::Ordering;
 
@@ -34,6 +34,16 @@ impl Rising {
         }
         self.held.push(op)?;
         Ok(true)
+    }
+
+    /// The operations, in one batch with no range operation.
+    pub fn into_batch(self, alloc: Global) -> Batch
+        ensures { IsBatch result }
+    {
+        Batch {
+            points: Items::of(self.held),
+            ranges: Items::new(alloc),
+        }
     }
 
     pub fn as_slice(&self) -> &[PointOp]

@@ -1,18 +1,16 @@
-use Rattle.std.proofs.Common.{◌≡◌, ℕ, ◌-◌, List, ◌++◌, length, take, drop, ap, ◌∙◌, arith}
-use Rattle.std.proofs.lemmas.List.{length-take-le, length-drop}
-use borrow.Rule.Slice.PartMut.{mid_of}
-use Rattle.mvcc_key.specs.declared.batch.PointOp.{PointOp}
-use Rattle.mem_table.proofs.MoveLaws.{put-back}
+use Rattle.std.proofs.Common.{ℕ, ◌-◌, List, take, drop, set, ap, ◌∙◌, arith}
+use Rattle.mem_table.proofs.MoveLaws.{put-back, put-front}
 use Rattle.mem_table.proofs.merge.put.Goals as goal
 
 pub returns-clause-back : goal.returns-clause-back
 returns-clause-back c =
-    let low = c.args.low in
-    let high = c.args.high in
-    let end = c.args.end in
-    let old : List PointOp = mid_of low (end - low) c.args.ops.now in
-    let rest : length (drop low c.args.ops.now) ≡ length c.args.ops.now - low = length-drop low c.args.ops.now in
-    let long : length old ≡ end - low = length-take-le (end - low) (drop low c.args.ops.now) (omega arith) in
-    let count : length old - (end - high) ≡ high - low = omega arith in
-    put-back c.args.ops.now c.rotate_right.new.self low high end _ c.args.op c.requires.ordered c.requires.free c.requires.within (omega arith)
-    (c.rotate_right.ensures.after ∙ ap (λ (n : ℕ). drop n old ++ take n old) count)
+    let place = c.args.end - (c.args.high - c.args.low) - 1 in
+    ap (λ (ns : List ℕ). drop place (set ns place c.args.number)) c.copy_within.ensures.after
+    ∙ put-back c.args.order.now c.args.low c.args.high c.args.end (c.args.end - (c.args.high - c.args.low)) place c.args.number
+    c.requires.ordered c.requires.free c.requires.within (omega arith) (omega arith)
+
+pub returns-clause-front : goal.returns-clause-front
+returns-clause-front c n le =
+    let place = c.args.end - (c.args.high - c.args.low) - 1 in
+    ap (λ (ns : List ℕ). take n (set ns place c.args.number)) c.copy_within.ensures.after
+    ∙ put-front c.args.order.now c.args.low c.args.high (c.args.end - (c.args.high - c.args.low)) place n c.args.number (omega arith) (omega arith) le

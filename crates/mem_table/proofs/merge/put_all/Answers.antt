@@ -1,74 +1,135 @@
-use Rattle.std.proofs.Common.{List, ◌≡◌, ◌++◌, ◌∷◌, [], length, take, drop, sym, subst, ap, ◌∙◌, arith}
-use Rattle.std.proofs.lemmas.List.{length-take-le, take-append-drop, take-take, nil_from_length}
+use Rattle.std.proofs.Common.{◌≡◌, List, [], length, take, sym, subst, arith}
+use Rattle.std.proofs.lemmas.List.{nil_from_length}
 use Rattle.mvcc_key.specs.declared.batch.PointOp.{PointOp}
-use Rattle.mem_table.specs.Entries.{AreEntries}
-use Rattle.mem_table.specs.Places.{newest_ops}
-use Rattle.mem_table.proofs.OrderedLaws.{in_order-sorted_list, newest_no_shorter}
-use Rattle.mem_table.proofs.EntryLaws.{op_cmp-total, sorted-entries, entries-take, entries-front}
-use Rattle.mem_table.proofs.StepLaws.{IsStep, step-range, step-done}
+use Rattle.mem_table.specs.Places.{newest_ops, listed, AreNumbersOf}
+use Rattle.mem_table.proofs.MergeLaws.{IsMerging, IsNext, IsMerged, merging-first, merging-numbers, merging-next, merging-known, merging-step, merging-last}
 use Rattle.mem_table.proofs.merge.put_all.Goals as goal
 
-pub put-end-requires-clause-free : goal.put-end-requires-clause-free
-put-end-requires-clause-free c =
-    let le = newest_no_shorter op_cmp-total c.loop-op.newer.items (take c.loop-op.high c.loop-op.ops) (sorted-entries (take c.loop-op.high c.loop-op.ops) c.loop-op.invariant.older) in
+pub loop-op-init : goal.loop-op-init
+loop-op-init c = record {
+  merging = (let held = c.args.ops.now.ok.0 in let count = c.requires.count in
+      merging-first c.args.newer.items c.args.ops.now.items c.args.order.now c.args.count c.requires.newer c.requires.older c.requires.numbers c.requires.within c.requires.free (omega arith));
+  room = c.requires.room;
+  few = c.requires.few;
+}
+
+pub range_of-low-requires-clause-numbers : goal.range_of-low-requires-clause-numbers
+range_of-low-requires-clause-numbers c =
+    let ops = c.loop-op.ops.items in
+    let all : AreNumbersOf ops (take c.loop-op.high c.loop-op.order) =
+    merging-numbers c.loop-op.newer.items ops c.loop-op.order c.loop-op.high c.loop-op.end _ c.loop-op.invariant.merging in
+    subst (λ us. AreNumbersOf us c.split_at.result.0.now) (sym c.deref.ensures.value) (subst (AreNumbersOf ops) (sym c.split_at.ensures.front) all)
+
+pub store-number-requires-clause-known : goal.store-number-requires-clause-known
+store-number-requires-clause-known c number some is =
+    let op = c.in-Some.op in
+    let before = c.pop.new.self.items in
+    let ops = c.loop-op.ops.items in
+    let order = c.loop-op.order in
+    let high = c.loop-op.high in
+    let end = c.loop-op.end in
+    let low = c.range_of-low.result.0 in
+    let behind = c.range_of-low.result.1 in
+    let whole : List PointOp = newest_ops c.args.newer.items (listed c.args.ops.now.items (take c.args.count c.args.order.now)) in
+    let next : IsNext before op ops order high end low behind whole =
+    merging-next c.loop-op.newer.items before op ops c.deref.result.now order c.split_at.result.0.now high end low behind c.as_slice.result.now whole
+    c.loop-op.invariant.merging c.in-Some.ensures.items c.as_slice.ensures c.deref.ensures.value c.split_at.ensures.front c.range_of-low.ensures in
+    let held = c.loop-op.ops.ok.0 in
+    let under = merging-known _ ops order high end low behind number whole next.merging some next.step.one next.step.within is in
+    omega arith
+
+pub store-number-requires-clause-room : goal.store-number-requires-clause-room
+store-number-requires-clause-room c none =
+    let op = c.in-Some.op in
+    let before = c.pop.new.self.items in
+    let ops = c.loop-op.ops.items in
+    let order = c.loop-op.order in
+    let high = c.loop-op.high in
+    let end = c.loop-op.end in
+    let low = c.range_of-low.result.0 in
+    let behind = c.range_of-low.result.1 in
+    let whole : List PointOp = newest_ops c.args.newer.items (listed c.args.ops.now.items (take c.args.count c.args.order.now)) in
+    let next : IsNext before op ops order high end low behind whole =
+    merging-next c.loop-op.newer.items before op ops c.deref.result.now order c.split_at.result.0.now high end low behind c.as_slice.result.now whole
+    c.loop-op.invariant.merging c.in-Some.ensures.items c.as_slice.ensures c.deref.ensures.value c.split_at.ensures.front c.range_of-low.ensures in
+    let held = c.loop-op.ops.ok.0 in
+    let more = next.more in
+    let ordered = next.merging.ordered in
+    let count = next.merging.count in
     let room = c.loop-op.invariant.room in
-    let within = c.loop-op.invariant.within in
-    omega (arith, length-take-le c.loop-op.high c.loop-op.ops within)
+    omega arith
+
+pub store-number-requires-clause-few : goal.store-number-requires-clause-few
+store-number-requires-clause-few c none =
+    let op = c.in-Some.op in
+    let before = c.pop.new.self.items in
+    let ops = c.loop-op.ops.items in
+    let order = c.loop-op.order in
+    let high = c.loop-op.high in
+    let end = c.loop-op.end in
+    let low = c.range_of-low.result.0 in
+    let behind = c.range_of-low.result.1 in
+    let whole : List PointOp = newest_ops c.args.newer.items (listed c.args.ops.now.items (take c.args.count c.args.order.now)) in
+    let next : IsNext before op ops order high end low behind whole =
+    merging-next c.loop-op.newer.items before op ops c.deref.result.now order c.split_at.result.0.now high end low behind c.as_slice.result.now whole
+    c.loop-op.invariant.merging c.in-Some.ensures.items c.as_slice.ensures c.deref.ensures.value c.split_at.ensures.front c.range_of-low.ensures in
+    let held = c.loop-op.ops.ok.0 in
+    let more = next.more in
+    let ordered = next.merging.ordered in
+    let count = next.merging.count in
+    let few = c.loop-op.invariant.few in
+    omega arith
 
 pub put-end-requires-clause-room : goal.put-end-requires-clause-room
 put-end-requires-clause-room c =
     let op = c.in-Some.op in
     let before = c.pop.new.self.items in
-    let newer : c.loop-op.newer.items ≡ before ++ op ∷ [] = c.in-Some.ensures.items in
-    let step = step-range before op c.loop-op.ops c.loop-op.high c.range_of-low.result.0 c.range_of-low.result.1 c.as_slice.result.now c.split_at.result.0.now
-    (subst AreEntries newer c.loop-op.invariant.newer) c.loop-op.invariant.older c.loop-op.invariant.within c.as_slice.ensures c.split_at.ensures.front c.range_of-low.ensures in
-    let room : length (newest_ops (before ++ op ∷ []) (take c.loop-op.high c.loop-op.ops)) ≡ c.loop-op.end =
-    ap (λ us. length (newest_ops us (take c.loop-op.high c.loop-op.ops))) (sym newer) ∙ c.loop-op.invariant.room in
-    let n = step.count in
-    omega arith
+    let ops = c.loop-op.ops.items in
+    let order = c.loop-op.order in
+    let high = c.loop-op.high in
+    let end = c.loop-op.end in
+    let low = c.range_of-low.result.0 in
+    let behind = c.range_of-low.result.1 in
+    let whole : List PointOp = newest_ops c.args.newer.items (listed c.args.ops.now.items (take c.args.count c.args.order.now)) in
+    let next : IsNext before op ops order high end low behind whole =
+    merging-next c.loop-op.newer.items before op ops c.deref.result.now order c.split_at.result.0.now high end low behind c.as_slice.result.now whole
+    c.loop-op.invariant.merging c.in-Some.ensures.items c.as_slice.ensures c.deref.ensures.value c.split_at.ensures.front c.range_of-low.ensures in
+    next.room
 
 pub loop-op-preserved : goal.loop-op-preserved
 loop-op-preserved c =
     let op = c.in-Some.op in
-    let ops = c.loop-op.ops in
-    let new = c.put-end.new.ops in
+    let before = c.pop.new.self.items in
+    let ops = c.loop-op.ops.items in
+    let order = c.loop-op.order in
     let high = c.loop-op.high in
+    let end = c.loop-op.end in
     let low = c.range_of-low.result.0 in
     let behind = c.range_of-low.result.1 in
-    let place = c.put-end.result in
-    let before = c.pop.new.self.items in
-    let newer : c.loop-op.newer.items ≡ before ++ op ∷ [] = c.in-Some.ensures.items in
-    let entries : AreEntries (before ++ op ∷ []) = subst AreEntries newer c.loop-op.invariant.newer in
-    let step : IsStep before op ops high low behind = step-range before op ops high low behind c.as_slice.result.now c.split_at.result.0.now
-    entries c.loop-op.invariant.older c.loop-op.invariant.within c.as_slice.ensures c.split_at.ensures.front c.range_of-low.ensures in
-    let all : length (newest_ops (before ++ op ∷ []) (take high ops)) ≡ c.loop-op.end =
-    ap (λ us. length (newest_ops us (take high ops))) (sym newer) ∙ c.loop-op.invariant.room in
-    let ordered = step.ordered in
-    let inside = step.within in
-    let n = step.count in
-    let room = step.room in
-    let at = c.put-end.ensures.place in
-    let within = c.loop-op.invariant.within in
-    let left : length (newest_ops before (take low ops)) ≡ place = omega arith in
-    let front : take low new ≡ take low ops = c.put-end.ensures.front low ordered (omega arith) in
+    let whole : List PointOp = newest_ops c.args.newer.items (listed c.args.ops.now.items (take c.args.count c.args.order.now)) in
+    let next : IsNext before op ops order high end low behind whole =
+    merging-next c.loop-op.newer.items before op ops c.deref.result.now order c.split_at.result.0.now high end low behind c.as_slice.result.now whole
+    c.loop-op.invariant.merging c.in-Some.ensures.items c.as_slice.ensures c.deref.ensures.value c.split_at.ensures.front c.range_of-low.ensures in
+    let new = c.store-number.new.ops.items in
+    let held = c.loop-op.ops.ok.0 in
+    let new_held = c.store-number.new.ops.ok.0 in
+    let long = c.put-end.auto.order in
+    let more = c.store-number.ensures.count next.step.ordered next.step.one in
     record {
-      newer = entries-front before (op ∷ []) entries;
-      older = subst AreEntries (take-take low high ops (omega arith) ∙ sym front) (entries-take low (take high ops) c.loop-op.invariant.older);
-      within = (let long = c.put-end.auto.ops in omega arith);
-      room = ap (λ us. length (newest_ops before us)) front ∙ left;
-      whole = step-done before op ops new _ high low behind c.loop-op.end place step front c.put-end.ensures.back
-          (ap (λ us. newest_ops us (take high ops) ++ drop c.loop-op.end ops) (sym newer) ∙ c.loop-op.invariant.whole);
+      merging = merging-step before op ops new order c.put-end.new.order high end low behind c.store-number.result c.put-end.result whole next
+          c.store-number.ensures.stored c.store-number.ensures.known (λ none. (let is = c.store-number.ensures.new none in omega arith)) (omega arith)
+          c.put-end.ensures.place c.put-end.ensures.front c.put-end.ensures.back long;
+      room = (let room = c.loop-op.invariant.room in let same = c.store-number.ensures.capacity in omega arith);
+      few = (let few = c.loop-op.invariant.few in let same = c.put-end.auto.order in omega arith);
     }
 
 pub returns : goal.returns
 returns c =
-    let ops = c.loop-op.ops in
-    let high = c.loop-op.high in
-    let front : List PointOp = take high ops in
+    let ops = c.loop-op.ops.items in
+    let whole : List PointOp = newest_ops c.args.newer.items (listed c.args.ops.now.items (take c.args.count c.args.order.now)) in
     let none : c.loop-op.newer.items ≡ [] = nil_from_length c.loop-op.newer.items (let n = c.in_default.ensures.cases.0 in let long = c.loop-op.newer.ok.0 in omega arith) in
-    let left : newest_ops c.loop-op.newer.items front ≡ front =
-    ap (λ us. newest_ops us front) none ∙ in_order-sorted_list op_cmp-total front (sorted-entries front c.loop-op.invariant.older) in
-    let room = c.loop-op.invariant.room in
-    let within = c.loop-op.invariant.within in
-    let same : c.loop-op.end ≡ high = (let n : length (newest_ops c.loop-op.newer.items front) ≡ length front = ap length left in omega (arith, length-take-le high ops within)) in
-    sym (take-append-drop high ops) ∙ ap (λ n. front ++ drop n ops) (sym same) ∙ ap (λ us. us ++ drop c.loop-op.end ops) (sym left) ∙ c.loop-op.invariant.whole
+    let done : IsMerged ops c.loop-op.order whole = merging-last ops c.loop-op.order c.loop-op.high c.loop-op.end whole
+    (subst (λ (us : List PointOp). IsMerging us ops c.loop-op.order c.loop-op.high c.loop-op.end whole) none c.loop-op.invariant.merging) in
+    let held = c.loop-op.ops.ok.0 in
+    let all : length ops ≡ length c.loop-op.order = done.count in
+    record { count = omega arith; numbers = done.numbers; merged = done.whole_is }

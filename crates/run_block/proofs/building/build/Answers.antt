@@ -16,7 +16,7 @@ of-requires-clause-run c =
     let ranges = c.args.ranges.now in
     let built : Run = record { points = points_of ops; ranges = ranges_of ranges } in
     let is = c.in_ok-put_ranges.ensures.run ∙ ap (λ (ps : List Point). record { points = ps; ranges = ranges_of ranges }) c.in_ok-put_points.ensures.points in
-    let head = c.put_head.ensures.items ∙ ap (λ (v : List ℕ). v ++ head_bytes (length ops) (length ranges)) c.in_ok-bytes.ensures.items in
+    let head = c.in_ok-put_head.ensures ∙ ap (λ (v : List ℕ). v ++ head_bytes (length ops) (length ranges)) c.in_ok-bytes.ensures.items in
     let items =
     c.in_ok-put_ranges.ensures.items
     ∙ ap (λ (v : List ℕ). v ++ flat_map range_bytes (ranges_of ranges)) (c.in_ok-put_points.ensures.items ∙ ap (λ (v : List ℕ). v ++ flat_map point_bytes (points_of ops)) head) in

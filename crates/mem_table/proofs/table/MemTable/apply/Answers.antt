@@ -5,6 +5,7 @@ use Rattle.mvcc_key.specs.SeenPoint.{points_of}
 use Rattle.mvcc_key.specs.declared.batch.PointOp.{PointOp}
 use Rattle.mvcc_key.specs.declared.batch.RangeOp.{RangeOp}
 use Rattle.mem_table.specs.Places.{newest_ops}
+use Rattle.mem_table.specs.Seen.{ops_held}
 use Rattle.mem_table.specs.Table.{Table, newest_points, ShowsNewest}
 use Rattle.mem_table.proofs.EntryLaws.{points-newest}
 use Rattle.mem_table.proofs.StateLaws.{shows-newest}
@@ -26,7 +27,7 @@ pub returns-clause-ok : goal.returns-clause-ok
 returns-clause-ok c =
     let view = c.self.view_is in
     on_ok c.apply.result _ _
-    (λ is. let points = points-after c.apply.new.self.held.items c.into_vec.result.items c.self.inside.points.held.items c.args.batch.points c.args.self.now.points is c.into_vec.ensures (ap (λ (t : Table). t.points) view) in
+    (λ is. let points = points-after (ops_held c.apply.new.self) c.into_vec.result.items (ops_held c.self.inside.points) c.args.batch.points c.args.self.now.points is c.into_vec.ensures (ap (λ (t : Table). t.points) view) in
     let ranges : c.self.inside.ranges.items ≡ c.args.self.now.ranges ++ c.args.batch.ranges =
     ap (λ (t : Table). t.ranges) view ∙ sym (append-nil c.args.self.now.ranges) ∙ ap (λ (rs : List RangeOp). c.args.self.now.ranges ++ rs) (sym c.requires.ranges) in
     λ i. record { points = points i; ranges = ranges i })
@@ -36,6 +37,6 @@ pub returns-clause-newest : goal.returns-clause-newest
 returns-clause-newest c =
     let view = c.self.view_is in
     on_ok c.apply.result _ _
-    (λ is. let points = points-after c.apply.new.self.held.items c.into_vec.result.items c.self.inside.points.held.items c.args.batch.points c.args.self.now.points is c.into_vec.ensures (ap (λ (t : Table). t.points) view) in
+    (λ is. let points = points-after (ops_held c.apply.new.self) c.into_vec.result.items (ops_held c.self.inside.points) c.args.batch.points c.args.self.now.points is c.into_vec.ensures (ap (λ (t : Table). t.points) view) in
     subst (ShowsNewest (points_of c.args.batch.points) c.args.self.now.points) (sym points) (shows-newest (points_of c.args.batch.points) c.args.self.now.points))
     c.apply.ensures.ok
