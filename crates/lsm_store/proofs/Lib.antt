@@ -1,0 +1,9 @@
+pub mod KnownLaws
+pub mod SoughtLaws
+pub mod ApplyLaws
+pub mod ChangeLaws
+pub mod FilterLaws
+pub mod TimeLaws
+pub mod SeenLaws
+pub mod CompactLaws
+pub mod LayoutLaws

@@ -1,0 +1,40 @@
+use Rattle.std.proofs.Common.{◌≡◌, List, [], ◌∷◌, map, ap, sym, refl, ◌∙◌, true, false}
+use Rattle.mvcc_key.specs.Points.{Point}
+use Rattle.mem_table.specs.Table.{Table}
+use Rattle.run_block.specs.RunFormat.{Run}
+use Rattle.lsm_store.specs.Parts.{flushed}
+use Rattle.lsm_store.specs.Shown.{shown, parts_of}
+use Rattle.lsm_store.proofs.CompactLaws.{shown-nothing, flushed-empty, flushed-some}
+use Rattle.lsm_store.proofs.store.Store.flush.Goals as goal
+
+-- the lists after a flush
+now-lists : (table : Table) (runs new : List Run) (run : Run) (old : List Point) → table ≡ record { points = []; ranges = [] } → new ≡ run ∷ runs
+    → run ≡ record { points = old; ranges = [] } → table.points ∷ map (λ r. r.points) new ≡ [] ∷ old ∷ map (λ r. r.points) runs
+now-lists table runs new run old empty is is_run = λ i. (empty i).points ∷ (ap (map (λ (r : Run). r.points)) is ∙ ap (λ (r : Run). r.points ∷ map (λ (s : Run). s.points) runs) is_run) i
+
+-- a table that is not empty holds something
+is_some : (points : List Point) → (points ≡ [] → false ≡ true) → points ≡ [] → ⊥
+is_some points empty none = let no : false ≡ true = empty none in absurd cc
+
+pub returns-then-is_empty-clause-parts : goal.returns-then-is_empty-clause-parts
+returns-then-is_empty-clause-parts c =
+    let table = c.self.inside.table.points in
+    let runs = map (λ (r : Run). r.points) c.self.inside.runs.items in
+    ap parts_of (sym c.self.view_is) ∙ flushed-empty table runs (c.if-is_empty.ensures.0 refl) ∙ ap (λ (ls : List (List Point)). flushed (parts_of ls)) c.self.view_is
+
+pub returns-clause-shown : goal.returns-clause-shown
+returns-clause-shown c =
+    let table = c.self.inside.table.points in
+    let runs = c.self.inside.runs.items in
+    let run = c.in_ok-run.ensures.run ∙ ap (λ (ps : List Point). record { points = ps; ranges = [] }) c.cursor-2.ensures.points in
+    let now = now-lists c.new.result runs c.insert.new.self.items c.in_ok-run.run' table c.new.ensures c.in_ok-insert.ensures.items run in
+    ap shown now ∙ shown-nothing (table ∷ map (λ (r : Run). r.points) runs) ∙ ap shown c.self.view_is
+
+pub returns-clause-parts : goal.returns-clause-parts
+returns-clause-parts c =
+    let table = c.self.inside.table.points in
+    let runs = c.self.inside.runs.items in
+    let run = c.in_ok-run.ensures.run ∙ ap (λ (ps : List Point). record { points = ps; ranges = [] }) c.cursor-2.ensures.points in
+    let now = now-lists c.new.result runs c.insert.new.self.items c.in_ok-run.run' table c.new.ensures c.in_ok-insert.ensures.items run in
+    ap parts_of now ∙ flushed-some table (map (λ (r : Run). r.points) runs) (is_some table c.if-is_empty.ensures.1)
+    ∙ ap (λ (ls : List (List Point)). flushed (parts_of ls)) c.self.view_is

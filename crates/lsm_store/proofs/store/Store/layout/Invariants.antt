@@ -1,0 +1,9 @@
+use Rattle.std.proofs.Common.{◌≡◌, ◌++◌, map, take}
+use Rattle.lsm_store.specs.Parts.{part_shape}
+use Rattle.lsm_store.specs.Shown.{part_of}
+use Rattle.lsm_store.specs.Seen.{seen_shape}
+use Rattle.lsm_store.proofs.store.Store.layout.Given as goal
+
+abbrev pub invariant-loop-run : goal.invariant-loop-run
+invariant-loop-run l =
+    map seen_shape l.shapes.items ≡ map seen_shape l.initial.shapes.items ++ map (λ r. part_shape (part_of r.points)) (take l.run-index l.run-items)

@@ -1,0 +1,5 @@
+pub mod Parts
+pub mod Shown
+pub mod Cursors
+pub mod Seen
+pub mod Changing

@@ -1,0 +1,72 @@
+//! What is counted in one walk of a part's cursor.
+ghost use Rattle.std.specs.Prelude.{◌≡◌, ◌<◌, length, filter, not, is_some};
+ghost use Rattle.lsm_store.specs.Parts.{part_shape};
+ghost use Rattle.lsm_store.specs.Shown.{part_of};
+ghost use Rattle.lsm_store.specs.Seen.{seen_shape};
+
+use crate::PartShape;
+use mvcc_key::{Cursor, Steps};
+use std::marker::Brand;
+use std::sync::ledger::{Blank, Ledger};
+
+/// What is shown of a part with so many names.
+pub(crate) fn shape_of<C: Cursor>(cursor: &mut C, count: usize) -> PartShape
+    requires start { C.place cursor.old ≡ 0 }
+    requires count { count ≡ length (C.points cursor.old) }
+    ensures { seen_shape result ≡ part_shape (part_of (C.points cursor.old)) }
+{
+    PartShape {
+        keys: count as u64,
+        clears: count_clears::<C, Brand>(cursor, count, Blank::new(1)),
+        ranges: false,
+    }
+}
+
+/// How many of so many names are cleared, by a counter from the blank, of which nothing is told.
+fn count_clears<C: Cursor, L: Ledger>(cursor: &mut C, count: usize, blank: Blank) -> u64
+    requires start { C.place cursor.old ≡ 0 }
+    requires count { count ≡ length (C.points cursor.old) }
+    requires name { blank.name ≡ L.name }
+    requires parts { blank.parts ≡ L.parts }
+    requires some { 0 < blank.parts }
+    ensures { result ≡ length (filter (λ p. not (is_some p.value)) (C.points cursor.old)) }
+{
+    let mut steps = Steps::<L>::new(blank);
+    let mut clears = 0;
+    for _ in 0..count {
+        cursor.next(&mut steps);
+        if cursor.value().is_none() {
+            clears += 1;
+        }
+    }
+    clears
+}
+
+/// How many bytes the next so many entries of a cursor have in a run, or the greatest number.
+pub(crate) fn entries_len<C: Cursor>(cursor: &mut C, count: usize) -> usize {
+    sum_lens::<C, Brand>(cursor, count, Blank::new(1))
+}
+
+/// The same, by a counter from the blank, of which nothing is told.
+fn sum_lens<C: Cursor, L: Ledger>(cursor: &mut C, count: usize, blank: Blank) -> usize
+    requires name { blank.name ≡ L.name }
+    requires parts { blank.parts ≡ L.parts }
+    requires some { 0 < blank.parts }
+{
+    let mut steps = Steps::<L>::new(blank);
+    let mut total: usize = 0;
+    for _ in 0..count {
+        cursor.next(&mut steps);
+        let entry = field_len(cursor.key()).saturating_add(field_len(cursor.value()));
+        total = total.saturating_add(entry).saturating_add(1);
+    }
+    total
+}
+
+/// How many bytes a key or a value has with its length before it. None has none.
+fn field_len(bytes: Option<&[u8]>) -> usize {
+    match bytes {
+        Some(bytes) => bytes.len().saturating_add(4),
+        None => 0,
+    }
+}

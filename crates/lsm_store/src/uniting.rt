@@ -1,0 +1,42 @@
+//! Several runs as one.
+ghost use Rattle.std.specs.Prelude.{◌≡◌, [], map, All, IfOk};
+ghost use Rattle.mem_table.specs.Entries.{IsStoredPoint};
+ghost use Rattle.merge_cursor.specs.Merged.{merged};
+ghost use Rattle.merge_cursor.specs.Visible.{visible};
+
+use crate::PartCursor;
+use merge_cursor::{MergeCursor, VisibleCursor};
+use mvcc_key::{Cursor, OutOfMemory};
+use run_block::{Run, collect};
+use std::alloc::Global;
+
+/// The run of what these runs show together, from the newest to the oldest: of each name the newest run's pair, and none where
+/// that run clears the name. It is made in one pass.
+pub(crate) fn unite(alloc: Global, runs: &[Run]) -> Result<Run, OutOfMemory>
+    ensures { IfOk result (λ run. run ≡ record { points = visible (merged (map (λ r. r.points) runs.now)); ranges = [] }) }
+{
+    let mut cursor = VisibleCursor::of(MergeCursor::over(cursors_over(alloc, runs)?));
+    collect(alloc, &mut cursor, bytes_of(runs))
+}
+
+/// The cursors of the runs, before their first points.
+fn cursors_over<'a>(alloc: Global, runs: &'a [Run]) -> Result<Vec<PartCursor<'a>>, OutOfMemory>
+    ensures points { IfOk result (λ v. map ⟦<PartCursor<'a> as Cursor>⟧.points v.items ≡ map (λ r. r.points) runs.now) }
+    ensures places { IfOk result (λ v. All (λ c. ⟦<PartCursor<'a> as Cursor>⟧.place c ≡ 0) v.items) }
+    ensures stored { IfOk result (λ _. All (λ r. All IsStoredPoint r.points) runs.now) }
+{
+    let mut cursors = Vec::with_capacity(alloc, runs.len())?;
+    for run in runs {
+        cursors.push(PartCursor::Run(run.cursor()))?;
+    }
+    Ok(cursors)
+}
+
+/// How many bytes the runs have together, or the greatest number.
+fn bytes_of(runs: &[Run]) -> usize {
+    let mut total: usize = 0;
+    for run in runs {
+        total = total.saturating_add(run.bytes().len());
+    }
+    total
+}
