@@ -1,6 +1,6 @@
 #!/usr/bin/env bash
 # Builds mvcc_tool where that is needed, and runs a script of commands through it: ./run.sh [SCRIPT]
-# Without a SCRIPT it runs examples/fruit.script and compares the answers with examples/fruit.answers.
+# Without a SCRIPT it runs each script of examples/ and compares the answers with those beside it.
 set -eu
 cd "$(dirname "${BASH_SOURCE[0]}")"
 command -v rt >/dev/null || { echo "run.sh: the Rattle kit's command 'rt' is not on the PATH" >&2; exit 2; }
@@ -12,4 +12,6 @@ fi
 if [ $# -gt 0 ]; then
     exec crates/mvcc_tool/out/mvcc_tool run <"$1"
 fi
-crates/mvcc_tool/out/mvcc_tool run <examples/fruit.script | tee /dev/stderr | cmp - examples/fruit.answers
+for example in examples/*.script; do
+    crates/mvcc_tool/out/mvcc_tool run <"$example" | tee /dev/stderr | cmp - "${example%.script}.answers"
+done

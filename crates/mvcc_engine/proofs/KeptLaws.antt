@@ -1,10 +1,9 @@
 -- What is kept of versions and of running statistics when time goes by, and when a version comes.
-use Rattle.std.specs.Prelude.{◌≡◌, ℕ, ◌≤◌, ◌^◌, List, [], ◌∷◌, drop, map, length, Option, Some, None, IfSome, false, true}
+use Rattle.std.specs.Prelude.{◌≡◌, ℕ, ◌≤◌, ◌^◌, List, [], ◌∷◌, drop, count_by, map, length, Option, Some, None, IfSome, false, true}
 use Rattle.std.specs.List.{AllByRecursion}
-use Rattle.std.specs.Option.{option_map}
 use Rattle.std.specs.declared.cmp.Ordering.TheVariants.{Less, Equal, Greater}
 use Rattle.std.specs.Ordering.{match_ordering}
-use Rattle.std.proofs.Common.{zero, suc, refl, sym, ◌∙◌, subst, arith, Bor, cond, Bool}
+use Rattle.std.proofs.Common.{zero, suc, refl, sym, ap, ◌∙◌, arith, cond, Bool}
 use Rattle.mvcc_key.specs.Lists.{put_in_order}
 use Rattle.mvcc_key.specs.Order.{Timestamp, Key, no_time, is_no_time, is_before, is_same_key}
 use Rattle.mvcc_key.specs.History.{Body, Deletion, Bytes, Int, Version, version_cmp}
@@ -14,18 +13,20 @@ use Rattle.mvcc_value.specs.Encoding.{value_bytes, zigzag}
 use Rattle.mvcc_value.proofs.VarintLaws.{length-varint_le}
 use Rattle.stat_core.specs.ComputeStats.{no_sums, compute_stats}
 use Rattle.stat_core.specs.Running.{Running}
+use Rattle.stat_core.specs.Seen as shapes
 use Rattle.stat_core.specs.Seen.{number}
+use Rattle.stat_core.specs.declared.shape.VersionShape.{VersionShape as Declared}
 use Rattle.stat_core.specs.Settling.{NoDebt, aged_number, settled_number, aged_to}
 use Rattle.stat_core.specs.Settling as settling
 use Rattle.stat_core.specs.Laws.{AreOf, PairsAreBy, IsChange}
 use Rattle.stat_core.specs.declared.group.Group.{Group}
 use Rattle.stat_core.proofs.SettlingLaws.{aged_to-computes, aged_number-no_debt, settled-computes, settled_number-no_debt}
-use Rattle.mvcc_engine.specs.declared.version.StoredVersion.{StoredVersion}
 use Rattle.mvcc_engine.specs.StoredPairs.{stored_pair, stored_pairs}
 use Rattle.mvcc_engine.specs.Write.{data_length, new_version}
 use Rattle.mvcc_engine.specs.Step.{statistics}
-use Rattle.mvcc_engine.specs.Places.{AreVersions, IsPlace, is_of_lower_key, version_at, history_of}
-use Rattle.mvcc_engine.specs.Change.{change_by}
+use Rattle.mvcc_engine.specs.Places.{AreVersions, IsPlace, is_of_lower_key, version_at, newest_version, history_of}
+use Rattle.mvcc_engine.specs.Stored.{IsShort}
+use Rattle.mvcc_engine.specs.Change.{shape, change_by}
 use Rattle.mvcc_engine.specs.Kept.{IsKept, IsCounted}
 use Rattle.mvcc_engine.proofs.ChangeLaws.{statistics-change}
 
@@ -58,15 +59,14 @@ at-place P key (v ∷ vs) zero all = by (is_same_key v.key key)
     by false = tt
 at-place P key (v ∷ vs) (suc i) all = at-place P key vs i all.1
 
--- the newest version of a key is one that is kept
-pub newest-kept : (last now : ℕ) (key : Key) (vs : List Version) (place : ℕ) (found : Option (Bor StoredVersion)) → last ≤ now → AllByRecursion (IsKept last) vs
-    → option_map (λ v. v.now) found ≡ version_at key (drop place vs) → IfSome found (λ v. IsKept now v.now)
-newest-kept last now key vs place found up kept at =
-    by found (subst (λ o. IfSome o (IsKept now)) (sym at) (at-place (IsKept now) key vs place (all_kept-later last now vs up kept)))
+-- the newest version of a key is short
+pub newest-short : (last : ℕ) (key : Key) (vs : List Version) → AllByRecursion (IsKept last) vs → IfSome (newest_version key vs) (λ v. (shape v).value_length ≤ 2 ^ 25)
+unfolding newest_version
+newest-short last key vs kept = by (version_at key (drop (count_by (is_of_lower_key key) vs) vs)) (at-place (IsKept last) key vs (count_by (is_of_lower_key key) vs) kept)
   where
-    by : (found : Option (Bor StoredVersion)) → IfSome (option_map (λ v. v.now) found) (IsKept now) → IfSome found (λ v. IsKept now v.now)
+    by : (found : Option Version) → IfSome found (IsKept last) → IfSome found (λ v. (shape v).value_length ≤ 2 ^ 25)
     by None h = tt
-    by (Some v) h = h
+    by (Some v) h = h.value
 
 -- the bytes of a short value
 short-value : (body : Body) (ts : Timestamp) → data_length body ≤ 1048576 → length (value_bytes body no_time ts) ≤ 2 ^ 25
@@ -74,6 +74,20 @@ unfolding value_bytes
 short-value Deletion ts short = omega arith
 short-value (Bytes bytes) ts short = omega (arith, short)
 short-value (Int number) ts short = omega (arith, length-varint_le (zigzag number))
+
+short-stored : (body : Body) (ts : Timestamp) → data_length body ≤ 1048576 → length (value_bytes body no_time ts) ≤ 16777216
+unfolding value_bytes
+short-stored Deletion ts short = omega arith
+short-stored (Bytes bytes) ts short = omega (arith, short)
+short-stored (Int number) ts short = omega (arith, length-varint_le (zigzag number))
+
+-- a version that is written is short
+pub new-short : (key : Key) (ts : Timestamp) (body : Body) → 1 ≤ length key → length key ≤ 4096 → data_length body ≤ 1048576 → IsShort (new_version key ts body)
+new-short key ts body some long small = record { some = some; key = long; value = short-stored body ts small }
+
+-- so is its shape
+pub short-shape : (seen : Declared) (key : Key) (ts : Timestamp) (body : Body) → shapes.version_of seen ≡ shape (new_version key ts body) → data_length body ≤ 1048576 → seen.value_len ≤ 2 ^ 25
+short-shape seen key ts body is short = let e = ap (λ x. x.value_length) is in let le = short-value body ts short in omega (arith, e, le)
 
 -- a version that is written is kept
 pub new-kept : (now : ℕ) (key : Key) (ts : Timestamp) (body : Body) → ts.wall ≤ now → length key ≤ 4096 → data_length body ≤ 1048576 → IsKept now (new_version key ts body)

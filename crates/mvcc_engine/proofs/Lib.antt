@@ -2,9 +2,10 @@
 pub mod SpelledLaws
 pub mod VersionLaws
 pub mod Search
+pub mod StoredLaws
 pub mod ChangeLaws
 pub mod GroupLaws
 pub mod RuleLaws
 pub mod KeptLaws
-pub mod StepLaws
 pub mod PlanLaws
+pub mod StepLaws

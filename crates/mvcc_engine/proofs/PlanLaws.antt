@@ -1,34 +1,38 @@
 -- What a write comes to, by what was looked at.
-use Rattle.std.specs.Prelude.{◌≡◌, ℕ, ◌≤◌, max, nat_lt, ◌==◌, Bool, true, false, List, drop, Option, Some, None, Ok, IfSome}
+use Rattle.std.specs.Prelude.{◌≡◌, ℕ, ◌≤◌, ◌^◌, max, nat_lt, ◌==◌, Bool, true, false, not, List, drop, length, count_by, Option, Some, None, Ok, Err, IfSome, MatchOption}
 use Rattle.std.specs.Option.{option_map}
 use Rattle.std.specs.declared.cmp.Ordering.TheVariants.{Less, Equal, Greater}
 use Rattle.std.specs.Ordering.{is_lt, ord_max, nat_cmp}
-use Rattle.std.proofs.Common.{refl, sym, ap, ◌∙◌, subst, arith, cond, ◌<◌, Bor}
+use Rattle.std.proofs.Common.{refl, sym, ap, ◌∙◌, subst, arith, cond, ◌<◌}
 use Rattle.std.proofs.lemmas.Bool.Decides.{nat_tests}
 use Rattle.mvcc_key.specs.Lists.{put_in_order}
 use Rattle.mvcc_key.specs.Order.{Timestamp, Key, is_no_time, is_before}
 use Rattle.mvcc_key.specs.History.{Body, Version, version_cmp}
 use Rattle.mvcc_key.specs.Items.{version_item}
+use Rattle.mvcc_key.specs.Seen.{time_of}
 use Rattle.mvcc_key.specs.Field.{Field}
-use Rattle.mvcc_key.specs.Refusal.{Refusal, CountOverflow}
+use Rattle.mvcc_key.specs.Refusal.{Refusal, TooOld, CountOverflow}
 use Rattle.stat_core.specs.ComputeStats.{overflowing}
 use Rattle.stat_core.specs.Running.{Running}
 use Rattle.stat_core.specs.Seen.{number}
 use Rattle.stat_core.specs.Settling as settling
 use Rattle.stat_core.specs.Settling.{NoDebt, settled_number}
 use Rattle.stat_core.specs.declared.group.Group.{Group}
-use Rattle.mvcc_engine.specs.declared.version.StoredVersion.{StoredVersion}
+use Rattle.stat_core.specs.Seen as shapes
+use Rattle.stat_core.specs.declared.shape.VersionShape.{VersionShape as Declared}
 use Rattle.mvcc_engine.specs.declared.plan.Planned.{Planned}
 use Rattle.mvcc_engine.specs.Write.{checked, past_newest, new_version, is_present, write}
-use Rattle.mvcc_engine.specs.Step.{State, Reply, statistics, settled, change}
-use Rattle.mvcc_engine.specs.Places.{AreVersions, IsPlace, is_of_lower_key, version_at, history_of}
-use Rattle.mvcc_engine.specs.Change.{change_by}
+use Rattle.mvcc_engine.specs.Step.{State, Reply, statistics, settled, parts_after, parts_between, change}
+use Rattle.mvcc_engine.specs.Places.{AreVersions, IsPlace, is_of_lower_key, version_at, newest_version, in_the_way, history_of}
+use Rattle.mvcc_engine.specs.Stored.{Held, IsShort}
+use Rattle.mvcc_engine.specs.Change.{shape, change_by, change_by_shapes}
 use Rattle.mvcc_engine.specs.Kept.{IsKept, IsCounted}
-use Rattle.mvcc_engine.specs.Plan.{IsPlanned}
+use Rattle.mvcc_engine.specs.Plan.{IsPlanned, state_after}
 use Rattle.mvcc_engine.specs.Seen.{Tells}
-use Rattle.mvcc_engine.proofs.RuleLaws.{newest-item, older-at, change-in_the_way, change-free, settled-over, settled-within}
+use Rattle.mvcc_engine.proofs.RuleLaws.{newest-item, past-free, past-older, past-stopped, change-in_the_way, change-free, settled-over, settled-within}
 use Rattle.mvcc_engine.proofs.KeptLaws.{counted-put, settled-is, settled-no_debt}
-use Rattle.mvcc_engine.proofs.StepLaws.{state_of}
+use Rattle.mvcc_engine.proofs.StoredLaws.{IsPlace-lower}
+use Rattle.mvcc_engine.proofs.SpelledLaws.{deletion-is}
 
 -- the greater of two numbers by their order
 pub ord_max-max : (m n : ℕ) → ord_max nat_cmp m n ≡ max m n
@@ -43,35 +47,89 @@ ord_max-max m n = by (nat_lt n m) (n == m) refl
 pub not_before : (now last wall : ℕ) → now ≡ max last wall → (last ≤ now) × (wall ≤ now)
 not_before now last wall is = (omega (arith, is), omega (arith, is))
 
-module _ (vs : List Version) (r : Running) (key : Key) (ts : Timestamp) (body : Body) (place : ℕ) (found : Option (Bor StoredVersion)) (are : AreVersions vs)
-    (is : IsPlace (is_of_lower_key key) vs place) (at : option_map (λ v. v.now) found ≡ version_at key (drop place vs)) (sound : checked key ts body ≡ Ok body) (s : State) (view : state_of vs r ≡ s) where
-  in_the_way : (why : Option Refusal) → ((b : Body) → Tells why (past_newest ts (option_map (λ v. version_item v.now) found) b)) → (reply : Bool → Reply)
-      → Tells why (change (state_of vs r) ts reply (write (history_of vs) key ts body))
-  in_the_way why told reply =
-      change-in_the_way (state_of vs r) key ts body reply why (option_map (λ v. version_item v.now) found) sound (newest-item key vs place found are is at) (told body)
+-- what the statistics see of the newest version tells its timestamp
+times-of : (seen : Option Declared) (found : Option Version) → option_map shapes.version_of seen ≡ option_map shape found → option_map (λ v. time_of v.ts) seen ≡ option_map (λ v. v.ts) found
+times-of None None same = refl
+times-of None (Some v) same = cc
+times-of (Some s) None same = cc
+times-of (Some s) (Some v) same = ap (option_map (λ x. x.ts)) same
+
+-- and how long its value is
+pub short-seen : (seen : Option Declared) (found : Option Version) → option_map shapes.version_of seen ≡ option_map shape found → IfSome found (λ v. (shape v).value_length ≤ 2 ^ 25)
+    → IfSome seen (λ v. v.value_len ≤ 2 ^ 25)
+short-seen None None same short = tt
+short-seen None (Some v) same short = cc
+short-seen (Some s) None same short = cc
+short-seen (Some s) (Some v) same short = let e : shapes.version_of s ≡ shape v = cc in let n = ap (λ x. x.value_length) e in omega (arith, n, short)
+
+-- by how much the statistics change, by the shapes
+changes-by : (now : ℕ) (new : Version) (found : Option Version) (f : Field) → change_by_shapes now (length new.key) (shape new) (option_map shape found) f ≡ change_by now new found f
+changes-by now new None f = refl
+changes-by now new (Some v) f = refl
+
+-- whether a value is there, by the shape
+pub present-is : (seen : Option Declared) (found : Option Version) (b : Bool) → option_map shapes.version_of seen ≡ option_map shape found → MatchOption seen (b ≡ false) (λ v. b ≡ not v.deletion)
+    → b ≡ is_present (option_map version_item found)
+present-is None None b same is = is
+present-is None (Some v) b same is = cc
+present-is (Some s) None b same is = cc
+present-is (Some s) (Some v) b same is =
+    let shapes_same : shapes.version_of s ≡ shape v = cc in
+    is ∙ ap not (ap (λ x. x.deletion) shapes_same ∙ deletion-is v.body v.local v.ts)
+
+-- the state of what is held and of running statistics
+abbrev pub state_of : Held → Running → State
+state_of h r = record { history = history_of h.versions; last = r.last; count_max = r.count_max; parts = h.parts }
+
+module _ (h : Held) (r : Running) (key : Key) (ts : Timestamp) (body : Body) (are : AreVersions h.versions) (sound : checked key ts body ≡ Ok body) (s : State) (view : state_of h r ≡ s)
+    (seen : Option Declared) (newest : option_map shapes.version_of seen ≡ option_map shape (newest_version key h.versions)) where
+  abbrev vs : List Version
+  vs = h.versions
+
+  times : option_map (λ v. time_of v.ts) seen ≡ option_map (λ v. v.ts) (newest_version key vs)
+  times = times-of seen (newest_version key vs) newest
 
   -- what stands in the way of a write is what it is refused with
-  pub refused : (why : Option Refusal) → ((b : Body) → Tells why (past_newest ts (option_map (λ v. version_item v.now) found) b)) → (reply : Bool → Reply)
+  pub refused : (why : Option Refusal) → why ≡ option_map TooOld (in_the_way ts (option_map (λ v. time_of v.ts) seen)) → (reply : Bool → Reply)
       → Tells why (change s ts reply (write s.history key ts body))
-  refused why told reply = subst (λ t. Tells why (change t ts reply (write t.history key ts body))) view (in_the_way why told reply)
+  refused why is reply = subst (λ x. Tells why (change x ts reply (write x.history key ts body))) view (rw is (by (in_the_way ts (option_map (λ v. time_of v.ts) seen)) refl))
+    where
+      by : (o : Option Timestamp) → in_the_way ts (option_map (λ v. time_of v.ts) seen) ≡ o → Tells (option_map TooOld o) (change (state_of h r) ts reply (write (history_of vs) key ts body))
+      by None clear = tt
+      by (Some t) stopped =
+          let told : past_newest ts (option_map version_item (newest_version key vs)) body ≡ Err (TooOld t) = past-stopped ts (newest_version key vs) body t (ap (in_the_way ts) (sym times) ∙ stopped) in
+          change-in_the_way (state_of h r) key ts body reply (Some (TooOld t)) (option_map version_item (newest_version key vs)) sound (newest-item key vs are) told
 
-  module _ (timed : is_no_time ts ≡ false) (free : (b : Body) → past_newest ts (option_map (λ v. version_item v.now) found) b ≡ Ok b)
-      (older : IfSome found (λ v. is_before v.now.ts ts ≡ true)) (counted : IsCounted vs r) (delta : Group) (now : ℕ) (later : now ≡ max r.last ts.wall)
-      (changes : (f : Field) → number f delta ≡ change_by now (new_version key ts body) (option_map (λ v. v.now) found) f) where
+  module _ (timed : is_no_time ts ≡ false) (way : in_the_way ts (option_map (λ v. time_of v.ts) seen) ≡ None) (counted : IsCounted vs r) (delta : Group) (now : ℕ) (later : now ≡ max r.last ts.wall)
+      (changes : (f : Field) → number f delta ≡ change_by_shapes now (length key) (shape (new_version key ts body)) (option_map shapes.version_of seen) f) where
     abbrev pub new : Version
     new = new_version key ts body
 
     abbrev after : List Version
     after = put_in_order version_cmp new vs
 
+    abbrev place : ℕ
+    place = count_by (is_of_lower_key key) vs
+
+    is : IsPlace (is_of_lower_key key) vs place
+    is = IsPlace-lower key vs are
+
+    clear : in_the_way ts (option_map (λ v. v.ts) (newest_version key vs)) ≡ None
+    clear = ap (in_the_way ts) (sym times) ∙ way
+
+    free : past_newest ts (option_map version_item (newest_version key vs)) body ≡ Ok body
+    free = past-free ts (newest_version key vs) body clear
+
+    newer : IfSome (version_at key (drop place vs)) (λ v. is_before v.ts ts ≡ true)
+    unfolding newest_version
+    newer = past-older ts (newest_version key vs) clear
+
     up : r.last ≤ now
     up = (not_before now r.last ts.wall later).0
 
-    newer : IfSome (version_at key (drop place vs)) (λ v. is_before v.ts ts ≡ true)
-    newer = older-at key ts vs place found at older
-
     changes' : (f : Field) → number f delta ≡ change_by now new (version_at key (drop place vs)) f
-    changes' f = changes f ∙ ap (λ o. change_by now new o f) at
+    unfolding newest_version
+    changes' f = changes f ∙ ap (λ o. change_by_shapes now (length key) (shape new) o f) newest ∙ changes-by now new (newest_version key vs) f
 
     -- the settled statistics are those of what is stored then
     settled_stats : settling.settled r delta now ≡ record { sums = statistics now (history_of after); last = now; count_max = r.count_max }
@@ -81,15 +139,15 @@ module _ (vs : List Version) (r : Running) (key : Key) (ts : Timestamp) (body : 
     pub no_debt : NoDebt (settled_number r delta now)
     no_debt = settled-no_debt vs r counted now up new place are timed is newer delta changes'
 
-    unfolded : (reply : Bool → Reply) → change (state_of vs r) ts reply (write (history_of vs) key ts body)
-        ≡ settled (state_of vs r) (history_of after) (max r.last ts.wall) (reply (is_present (option_map (λ v. version_item v.now) found)))
-    unfolded reply = change-free (state_of vs r) key ts body reply (option_map (λ v. version_item v.now) found) sound (newest-item key vs place found are is at) (free body)
+    unfolded : (reply : Bool → Reply) → change (state_of h r) ts reply (write (history_of vs) key ts body)
+        ≡ settled (state_of h r) (history_of after) (max r.last ts.wall) (parts_after (state_of h r) (history_of after)) (reply (is_present (option_map version_item (newest_version key vs))))
+    unfolded reply = change-free (state_of h r) key ts body reply (option_map version_item (newest_version key vs)) sound (newest-item key vs are) free
 
     over : (f : Field) → Some f ≡ overflowing r.count_max (settling.settled r delta now).sums → (reply : Bool → Reply)
-        → Tells (Some (CountOverflow f)) (change (state_of vs r) ts reply (write (history_of vs) key ts body))
+        → Tells (Some (CountOverflow f)) (change (state_of h r) ts reply (write (history_of vs) key ts body))
     over f passes reply =
         unfolded reply
-        ∙ settled-over (state_of vs r) (history_of after) (max r.last ts.wall) (reply (is_present (option_map (λ v. version_item v.now) found))) f
+        ∙ settled-over (state_of h r) (history_of after) (max r.last ts.wall) (parts_after (state_of h r) (history_of after)) (reply (is_present (option_map version_item (newest_version key vs)))) f
         (passes ∙ ap (λ q. overflowing r.count_max q.sums) settled_stats ∙ ap (λ m. overflowing r.count_max (statistics m (history_of after))) later)
 
     -- a statistic that passes the bound refuses the write
@@ -97,31 +155,39 @@ module _ (vs : List Version) (r : Running) (key : Key) (ts : Timestamp) (body : 
         → Tells (Some (CountOverflow f)) (change s ts reply (write s.history key ts body))
     overflows f passes reply = subst (λ t. Tells (Some (CountOverflow f)) (change t ts reply (write t.history key ts body))) view (over f passes reply)
 
-    planned : None ≡ overflowing r.count_max (settling.settled r delta now).sums → (p : Planned) → p.version ≡ new → p.place ≡ place
-        → p.was_there ≡ is_present (option_map (λ v. version_item v.now) found) → p.stats ≡ settling.settled r delta now → IsKept now new → IsPlanned (state_of vs r) key ts body p
-    planned fits p made at_place there stats kept = record {
+    planned : None ≡ overflowing r.count_max (settling.settled r delta now).sums → (p : Planned) → p.version ≡ new
+        → p.was_there ≡ is_present (option_map version_item (newest_version key vs)) → p.stats ≡ settling.settled r delta now → IsKept now new → IsShort new → IsPlanned (state_of h r) key ts body p
+    planned fits p made there stats kept short = record {
       version = made;
       timed = timed;
-      place = subst (IsPlace (is_of_lower_key key) vs) (sym at_place) is;
-      newer = subst (λ i. IfSome (version_at key (drop i vs)) (λ v. is_before v.ts ts ≡ true)) (sym at_place) newer;
+      short = short;
       kept = subst (λ m. IsKept m new) later kept;
       stats = stats ∙ settled_stats ∙ ap (λ m. record { sums = statistics m (history_of after); last = m; count_max = r.count_max }) later;
       taken = λ reply.
           unfolded reply
-          ∙ settled-within (state_of vs r) (history_of after) (max r.last ts.wall) (reply (is_present (option_map (λ v. version_item v.now) found)))
+          ∙ settled-within (state_of h r) (history_of after) (max r.last ts.wall) (parts_after (state_of h r) (history_of after)) (reply (is_present (option_map version_item (newest_version key vs))))
           (fits ∙ ap (λ q. overflowing r.count_max q.sums) settled_stats ∙ ap (λ m. overflowing r.count_max (statistics m (history_of after))) later)
-          ∙ ap (λ b. Ok (record { state = record { history = history_of after; last = max r.last ts.wall; count_max = r.count_max }; reply = reply b })) (sym there);
+          ∙ ap (λ b. Ok (record { state = record { history = history_of after; last = max r.last ts.wall; count_max = r.count_max; parts = parts_after (state_of h r) (history_of after) }; reply = reply b })) (sym there);
     }
 
     -- and else it is planned
-    pub taken : None ≡ overflowing r.count_max (settling.settled r delta now).sums → (p : Planned) → p.version ≡ new → p.place ≡ place
-        → p.was_there ≡ is_present (option_map (λ v. version_item v.now) found) → p.stats ≡ settling.settled r delta now → IsKept now new → IsPlanned s key ts body p
-    taken fits p made at_place there stats kept = subst (λ t. IsPlanned t key ts body p) view (planned fits p made at_place there stats kept)
+    pub taken : None ≡ overflowing r.count_max (settling.settled r delta now).sums → (p : Planned) → p.version ≡ new
+        → p.was_there ≡ is_present (option_map version_item (newest_version key vs)) → p.stats ≡ settling.settled r delta now → IsKept now new → IsShort new → IsPlanned s key ts body p
+    taken fits p made there stats kept short = subst (λ t. IsPlanned t key ts body p) view (planned fits p made there stats kept short)
 
 -- what was planned and put is counted
-pub counted-planned : (vs ys : List Version) (r : Running) (s : State) (key : Key) (ts : Timestamp) (body : Body) (p : Planned) → state_of vs r ≡ s → IsCounted vs r → IsPlanned s key ts body p
-    → ys ≡ put_in_order version_cmp p.version vs → IsCounted ys p.stats
-counted-planned vs ys r s key ts body p view counted planned put =
-    let is : IsPlanned (state_of vs r) key ts body p = subst (λ t. IsPlanned t key ts body p) (sym view) planned in
-    let put' : ys ≡ put_in_order version_cmp (new_version key ts body) vs = put ∙ ap (λ v. put_in_order version_cmp v vs) is.version in
-    rw (put', is.stats) (counted-put vs r counted (max r.last ts.wall) (not_before _ r.last ts.wall refl).0 (new_version key ts body) is.kept)
+pub counted-planned : (h : Held) (ys : List Version) (r : Running) (s : State) (key : Key) (ts : Timestamp) (body : Body) (p : Planned) → state_of h r ≡ s → IsCounted h.versions r → IsPlanned s key ts body p
+    → ys ≡ put_in_order version_cmp p.version h.versions → IsCounted ys p.stats
+counted-planned h ys r s key ts body p view counted planned put =
+    let is : IsPlanned (state_of h r) key ts body p = subst (λ t. IsPlanned t key ts body p) (sym view) planned in
+    let put' : ys ≡ put_in_order version_cmp (new_version key ts body) h.versions = put ∙ ap (λ v. put_in_order version_cmp v h.versions) is.version in
+    rw (put', is.stats) (counted-put h.versions r counted (max r.last ts.wall) (not_before _ r.last ts.wall refl).0 (new_version key ts body) is.kept)
+
+-- and the state is the one after the write
+pub state-planned : (h after : Held) (r : Running) (s : State) (key : Key) (ts : Timestamp) (body : Body) (p : Planned) → state_of h r ≡ s → IsPlanned s key ts body p
+    → after.versions ≡ put_in_order version_cmp p.version h.versions → after.parts ≡ parts_between (history_of h.versions) (history_of after.versions) h.parts → state_of after p.stats ≡ state_after s key ts body
+state-planned h after r s key ts body p view planned put parts =
+    let is : IsPlanned (state_of h r) key ts body p = subst (λ t. IsPlanned t key ts body p) (sym view) planned in
+    let put' : after.versions ≡ put_in_order version_cmp (new_version key ts body) h.versions = put ∙ ap (λ v. put_in_order version_cmp v h.versions) is.version in
+    let one : state_of after p.stats ≡ state_after (state_of h r) key ts body = rw (parts, put', is.stats) refl in
+    subst (λ t. state_of after p.stats ≡ state_after t key ts body) view one

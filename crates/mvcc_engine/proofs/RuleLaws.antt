@@ -1,57 +1,92 @@
 -- What a read and a write answer, by the place of the key.
-use Rattle.std.specs.Prelude.{◌≡◌, ℕ, max, Bool, true, List, drop, Option, Some, None, Ok, Err, IfSome}
+use Rattle.std.specs.Prelude.{◌≡◌, ℕ, ◌+◌, max, Bool, true, false, List, [], ◌∷◌, drop, map, filter, count_by, cond, Option, Some, None, Ok, Err, IfSome}
+use Rattle.std.specs.List.{AllByRecursion}
 use Rattle.std.specs.Option.{option_map}
-use Rattle.std.proofs.Common.{refl, sym, ap, ◌∙◌, Bor}
-use Rattle.mvcc_key.specs.Order.{Timestamp, Key, is_before}
+use Rattle.std.proofs.Common.{refl, sym, ap, ◌∙◌}
+use Rattle.mvcc_key.specs.Order.{Timestamp, Key, is_no_time, is_before, is_same_key}
 use Rattle.mvcc_key.specs.History.{Body, Version, History, with_version}
-use Rattle.mvcc_key.specs.Items.{Item, items, version_item, newest}
+use Rattle.mvcc_key.specs.Items.{Item, items, version_item, newest, newest_at}
 use Rattle.mvcc_key.specs.Field.{Field}
-use Rattle.mvcc_key.specs.Refusal.{Refusal, CountOverflow}
+use Rattle.mvcc_key.specs.Refusal.{Refusal, TooOld, CountOverflow}
 use Rattle.stat_core.specs.ComputeStats.{overflowing}
-use Rattle.mvcc_engine.specs.declared.version.StoredVersion.{StoredVersion}
-use Rattle.mvcc_engine.specs.Read.{get, row_of, item_row}
+use Rattle.lsm_store.specs.Parts.{Part}
+use Rattle.mvcc_engine.specs.Read.{get, item_row}
 use Rattle.mvcc_engine.specs.Write.{checked, past_newest, new_version, is_present, write}
-use Rattle.mvcc_engine.specs.Step.{State, Reply, statistics, settled, change}
-use Rattle.mvcc_engine.specs.Places.{AreVersions, IsPlace, is_ahead, is_of_lower_key, version_at, history_of}
+use Rattle.mvcc_engine.specs.Step.{State, Reply, statistics, settled, parts_after, change}
+use Rattle.mvcc_engine.specs.Places.{AreVersions, is_ahead, is_of_lower_key, version_at, newest_version, in_the_way, history_of}
 use Rattle.mvcc_engine.specs.Seen.{Tells}
-use Rattle.mvcc_engine.proofs.VersionLaws.{newest_at-place, newest-place, version_at-key}
+use Rattle.mvcc_engine.proofs.VersionLaws.{items-history_of, newest_at-place, newest-place, not_up_to-before, up_to-not_before, up_to_none}
+use Rattle.mvcc_engine.proofs.StoredLaws.{IsPlace-lower, IsPlace-ahead, row-found}
+use Rattle.mvcc_key.specs.Points.{Point, point_at, count_below}
+use Rattle.mvcc_engine.specs.declared.version.VersionRef.{VersionRef}
+use Rattle.mvcc_engine.specs.Lent.{lent_point}
+use Rattle.mvcc_engine.specs.Stored.{version_of, versions_of, of_key, IsVersion}
 
 -- a read answers the version at its place
-get-place : (key : Key) (ts : Timestamp) (vs : List Version) (place : ℕ) → AreVersions vs → IsPlace (is_ahead key ts) vs place
-    → get (history_of vs) key ts ≡ item_row key (option_map version_item (version_at key (drop place vs)))
+pub get-place : (key : Key) (ts : Timestamp) (vs : List Version) → AreVersions vs
+    → get (history_of vs) key ts ≡ item_row key (option_map version_item (version_at key (drop (count_by (is_ahead key ts) vs) vs)))
 unfolding get
-get-place key ts vs place are is = ap (item_row key) (newest_at-place key ts vs place are is)
+get-place key ts vs are = ap (item_row key) (newest_at-place key ts vs (count_by (is_ahead key ts) vs) are (IsPlace-ahead key ts vs are))
 
--- so it answers what that version is as a row
-pub get-some : (key : Key) (ts : Timestamp) (vs : List Version) (place : ℕ) (v : Version) → AreVersions vs → IsPlace (is_ahead key ts) vs place → Some v ≡ version_at key (drop place vs)
-    → row_of v.key v.body v.ts ≡ get (history_of vs) key ts
-get-some key ts vs place v are is at =
-    ap (λ k. row_of k v.body v.ts) (version_at-key key (drop place vs) v (sym at))
-    ∙ ap (λ o. item_row key (option_map version_item o)) at
-    ∙ sym (get-place key ts vs place are is)
-
--- and nothing where there is none
-pub get-none : (key : Key) (ts : Timestamp) (vs : List Version) (place : ℕ) → AreVersions vs → IsPlace (is_ahead key ts) vs place → None ≡ version_at key (drop place vs)
-    → None ≡ get (history_of vs) key ts
-get-none key ts vs place are is at = ap (λ o. item_row key (option_map version_item o)) at ∙ sym (get-place key ts vs place are is)
-
--- the newest item of a key is the version at its place
-pub newest-item : (key : Key) (vs : List Version) (place : ℕ) (found : Option (Bor StoredVersion)) → AreVersions vs → IsPlace (is_of_lower_key key) vs place
-    → option_map (λ v. v.now) found ≡ version_at key (drop place vs) → newest (items (history_of vs) key) ≡ option_map (λ v. version_item v.now) found
-newest-item key vs place found are is at = newest-place key vs place are is ∙ ap (option_map version_item) (sym at) ∙ by found
+-- no version is at a timestamp that is none
+none_at : (key : Key) (ts : Timestamp) (vs : List Version) → is_no_time ts ≡ true → AllByRecursion (λ v. is_no_time v.ts ≡ false) vs
+    → newest_at ts (map version_item (filter (λ w. is_same_key w.key key) vs)) ≡ None
+none_at key ts [] nothing timed = refl
+none_at key ts (v ∷ vs) nothing timed = by (is_same_key v.key key) (none_at key ts vs nothing timed.1)
   where
-    by : (found : Option (Bor StoredVersion)) → option_map version_item (option_map (λ v. v.now) found) ≡ option_map (λ v. version_item v.now) found
+    by : (b : Bool) → newest_at ts (map version_item (filter (λ w. is_same_key w.key key) vs)) ≡ None
+        → newest_at ts (map version_item (cond b (v ∷ filter (λ w. is_same_key w.key key) vs) (filter (λ w. is_same_key w.key key) vs))) ≡ None
+    by false rest = rest
+    by true rest = rw (up_to_none v.ts ts timed.0 nothing) rest
+
+-- so a read at one answers nothing
+pub get-none : (key : Key) (ts : Timestamp) (vs : List Version) → is_no_time ts ≡ true → AreVersions vs → None ≡ get (history_of vs) key ts
+unfolding get
+get-none key ts vs nothing are = sym (ap (λ l. item_row key (newest_at ts l)) (items-history_of key vs are) ∙ ap (item_row key) (none_at key ts vs nothing are.timed))
+
+-- a read answers what a seek to its name finds
+pub get-found : (key : Key) (ts : Timestamp) (ps points : List Point) (place : ℕ) (found : Option VersionRef) → AreVersions (versions_of ps) → AllByRecursion IsVersion ps → is_no_time ts ≡ false
+    → place ≡ count_below (record { key = key; ts = ts }) ps + 1 → points ≡ ps → option_map (lent_point key) found ≡ of_key key (point_at points place)
+    → item_row key (option_map (λ v. version_item (version_of (lent_point key v))) found) ≡ get (history_of (versions_of ps)) key ts
+get-found key ts ps points place found are all some is same lent =
+    sym (get-place key ts (versions_of ps) are
+    ∙ ap (λ o. item_row key (option_map version_item o)) (row-found key ts ps place found all some is (lent ∙ ap (λ l. of_key key (point_at l place)) same))
+    ∙ ap (item_row key) (by found))
+  where
+    by : (found : Option VersionRef) → option_map version_item (option_map (λ v. version_of (lent_point key v)) found) ≡ option_map (λ v. version_item (version_of (lent_point key v))) found
     by None = refl
     by (Some v) = refl
 
--- an older version is in the way of none
-pub older-at : (key : Key) (ts : Timestamp) (vs : List Version) (place : ℕ) (found : Option (Bor StoredVersion)) → option_map (λ v. v.now) found ≡ version_at key (drop place vs)
-    → IfSome found (λ v. is_before v.now.ts ts ≡ true) → IfSome (version_at key (drop place vs)) (λ v. is_before v.ts ts ≡ true)
-older-at key ts vs place found at older = rw (sym at) (by found older)
+-- the newest item of a key is its newest version
+pub newest-item : (key : Key) (vs : List Version) → AreVersions vs → newest (items (history_of vs) key) ≡ option_map version_item (newest_version key vs)
+unfolding newest_version
+newest-item key vs are = newest-place key vs (count_by (is_of_lower_key key) vs) are (IsPlace-lower key vs are)
+
+-- what is in the way of a write, by the newest version
+pub past-free : (ts : Timestamp) (found : Option Version) (body : Body) → in_the_way ts (option_map (λ v. v.ts) found) ≡ None → past_newest ts (option_map version_item found) body ≡ Ok body
+past-free ts None body free = refl
+past-free ts (Some v) body free = by (is_before v.ts ts) refl free
   where
-    by : (found : Option (Bor StoredVersion)) → IfSome found (λ v. is_before v.now.ts ts ≡ true) → IfSome (option_map (λ v. v.now) found) (λ v. is_before v.ts ts ≡ true)
-    by None h = tt
-    by (Some v) h = h
+    by : (b : Bool) → is_before v.ts ts ≡ b → cond b None (Some v.ts) ≡ None → past_newest ts (Some (version_item v)) body ≡ Ok body
+    by true is free' = rw (not_up_to-before v.ts ts is) refl
+    by false is free' = cc
+
+pub past-older : (ts : Timestamp) (found : Option Version) → in_the_way ts (option_map (λ v. v.ts) found) ≡ None → IfSome found (λ v. is_before v.ts ts ≡ true)
+past-older ts None free = tt
+past-older ts (Some v) free = by (is_before v.ts ts) refl free
+  where
+    by : (b : Bool) → is_before v.ts ts ≡ b → cond b None (Some v.ts) ≡ None → is_before v.ts ts ≡ true
+    by true is free' = is
+    by false is free' = cc
+
+pub past-stopped : (ts : Timestamp) (found : Option Version) (body : Body) (t : Timestamp) → in_the_way ts (option_map (λ v. v.ts) found) ≡ Some t
+    → past_newest ts (option_map version_item found) body ≡ Err (TooOld t)
+past-stopped ts None body t stopped = cc
+past-stopped ts (Some v) body t stopped = by (is_before v.ts ts) refl stopped
+  where
+    by : (b : Bool) → is_before v.ts ts ≡ b → cond b None (Some v.ts) ≡ Some t → past_newest ts (Some (version_item v)) body ≡ Err (TooOld t)
+    by true is stopped' = cc
+    by false is stopped' = let same : v.ts ≡ t = cc in rw (up_to-not_before v.ts ts is, same) refl
 
 module _ (s : State) (key : Key) (ts : Timestamp) (body : Body) (reply : Bool → Reply) where
   -- what the tests of key, value and timestamp tell, the write tells
@@ -69,15 +104,15 @@ module _ (s : State) (key : Key) (ts : Timestamp) (body : Body) (reply : Bool �
 
   -- a write with nothing in its way is settled
   pub change-free : (item : Option Item) → checked key ts body ≡ Ok body → newest (items s.history key) ≡ item → past_newest ts item body ≡ Ok body
-      → change s ts reply (write s.history key ts body) ≡ settled s (with_version (new_version key ts body) s.history) (max s.last ts.wall) (reply (is_present item))
+      → change s ts reply (write s.history key ts body) ≡ settled s (with_version (new_version key ts body) s.history) (max s.last ts.wall) (parts_after s (with_version (new_version key ts body) s.history)) (reply (is_present item))
   unfolding write
   change-free item sound is free = rw (sound, is, free) refl
 
 -- statistics that pass the bound refuse it
-pub settled-over : (s : State) (h : History) (now : ℕ) (reply : Reply) (f : Field) → Some f ≡ overflowing s.count_max (statistics now h) → settled s h now reply ≡ Err (CountOverflow f)
-settled-over s h now reply f over = rw (sym over) refl
+pub settled-over : (s : State) (h : History) (now : ℕ) (parts : List Part) (reply : Reply) (f : Field) → Some f ≡ overflowing s.count_max (statistics now h) → settled s h now parts reply ≡ Err (CountOverflow f)
+settled-over s h now parts reply f over = rw (sym over) refl
 
 -- and else it is taken
-pub settled-within : (s : State) (h : History) (now : ℕ) (reply : Reply) → None ≡ overflowing s.count_max (statistics now h)
-    → settled s h now reply ≡ Ok (record { state = record { history = h; last = now; count_max = s.count_max }; reply = reply })
-settled-within s h now reply fits = rw (sym fits) refl
+pub settled-within : (s : State) (h : History) (now : ℕ) (parts : List Part) (reply : Reply) → None ≡ overflowing s.count_max (statistics now h)
+    → settled s h now parts reply ≡ Ok (record { state = record { history = h; last = now; count_max = s.count_max; parts = parts }; reply = reply })
+settled-within s h now parts reply fits = rw (sym fits) refl

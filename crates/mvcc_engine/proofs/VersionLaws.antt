@@ -1,5 +1,5 @@
 -- What stands where among versions in the order of stored pairs.
-use Rattle.std.specs.Prelude.{◌≡◌, ℕ, ◌≤◌, ◌<◌, Bool, true, false, List, [], ◌∷◌, ◌++◌, length, take, drop, map, filter, cond, Some, None, IfSome}
+use Rattle.std.specs.Prelude.{◌≡◌, ℕ, Bool, true, false, List, [], ◌∷◌, ◌++◌, take, drop, map, filter, cond, Some, None, IfSome}
 use Rattle.std.specs.List.{AllByRecursion}
 use Rattle.std.specs.List.Sorted.{IsStrictlySortedBy}
 use Rattle.std.specs.Option.{option_map}
@@ -7,9 +7,10 @@ use Rattle.std.specs.declared.cmp.Ordering.{Ordering}
 use Rattle.std.specs.declared.cmp.Ordering.TheVariants.{Less, Equal, Greater}
 use Rattle.std.specs.Ordering.{is_lt, is_le, is_eq, ordering_reverse, match_ordering}
 use Rattle.std.specs.Cmp.{IsTotalOrder}
-use Rattle.std.proofs.Common.{zero, suc, refl, sym, ap, ◌∙◌, subst, arith, append-nil, take-append-drop, get_or}
+use Rattle.std.proofs.Common.{zero, suc, refl, sym, ap, ◌∙◌, subst, arith, append-nil, take-append-drop}
 use Rattle.std.proofs.lemmas.Map.Text.{is_eq-slice_cmp}
 use Rattle.std.proofs.lemmas.Cmp.{on_total}
+use Rattle.std.proofs.lemmas.Bool.Decides.{nat_tests}
 use Rattle.mvcc_key.specs.Lists.{put_in_order, in_order, first}
 use Rattle.mvcc_key.specs.Order.{Timestamp, Key, time_cmp, key_cmp, newer_first, is_before, is_up_to, is_same_key, is_no_time}
 use Rattle.mvcc_key.specs.History.{Version, version_cmp, version_name}
@@ -41,7 +42,7 @@ pub is_same_key-is_eq : (a b : Key) → is_same_key a b ≡ is_eq (key_cmp a b)
 is_same_key-is_eq a b = sym (is_eq-slice_cmp a b)
 
 -- a key whose test passes ties
-tied : (a b : Key) → is_same_key a b ≡ true → key_cmp a b ≡ Equal
+pub tied : (a b : Key) → is_same_key a b ≡ true → key_cmp a b ≡ Equal
 tied a b same = by (key_cmp a b) (sym (is_same_key-is_eq a b) ∙ same)
   where
     by : (o : Ordering) → is_eq o ≡ true → o ≡ Equal
@@ -152,6 +153,10 @@ not_up_to-before s t h = by (time_cmp s t) (time_cmp t s) (time_cmp-total.antisy
     by Less p e h = rw e refl
     by Equal p e h = cc
     by Greater p e h = cc
+
+-- a timestamp is not up to one that is none
+pub up_to_none : (t none : Timestamp) → is_no_time t ≡ false → is_no_time none ≡ true → is_up_to t none ≡ false
+up_to_none t none timed nothing = grind (arith, nat_tests)
 
 -- the items of the key among these versions
 abbrev pub items_among : Key → List Version → List Item
@@ -303,20 +308,6 @@ pub AreVersions-nil : AreVersions []
 unfolding IsStrictlySortedBy
 AreVersions-nil = record { sorted = tt; timed = tt }
 
--- the version at the front of what is behind a place
-module _ (key : Key) where
-  pub version_at-drop : (xs : List Version) (i : ℕ) (x : Version) → i < length xs → x ≡ get_or xs i x
-      → version_at key (drop i xs) ≡ cond (is_same_key x.key key) (Some x) None
-  version_at-drop [] i x within is = absurd (omega arith)
-  version_at-drop (y ∷ ys) zero x within is = rw is refl
-  version_at-drop (y ∷ ys) (suc i) x within is = version_at-drop ys i x (omega arith) is
-
-  pub version_at-past : (xs : List Version) (i : ℕ) → length xs ≤ i → version_at key (drop i xs) ≡ None
-  version_at-past [] zero past = refl
-  version_at-past [] (suc i) past = refl
-  version_at-past (y ∷ ys) zero past = absurd (omega arith)
-  version_at-past (y ∷ ys) (suc i) past = version_at-past ys i (omega arith)
-
 -- it is of the key
 pub version_at-key : (key : Key) (vs : List Version) (v : Version) → version_at key vs ≡ Some v → v.key ≡ key
 version_at-key key [] v is = cc
@@ -325,9 +316,3 @@ version_at-key key (w ∷ ws) v is = by (is_same_key w.key key) refl is
     by : (b : Bool) → is_same_key w.key key ≡ b → cond b (Some w) None ≡ Some v → v.key ≡ key
     by true same found = let e : w ≡ v = cc in subst (λ x. x.key ≡ key) e (key_cmp-IsAntisymmetric w.key key (tied w.key key same))
     by false same found = cc
-
--- what was inserted at the place of its key is in its order
-pub inserted-is : (new : Version) (xs vs ys : List Version) (place : ℕ) → xs ≡ vs → ys ≡ take place xs ++ new ∷ drop place xs → AreVersions vs → is_no_time new.ts ≡ false
-    → IsPlace (is_of_lower_key new.key) vs place → IfSome (version_at new.key (drop place vs)) (λ v. is_before v.ts new.ts ≡ true) → ys ≡ put_in_order version_cmp new vs
-inserted-is new xs vs ys place same inserted are timed is newer =
-    inserted ∙ ap (λ l. take place l ++ new ∷ drop place l) same ∙ sym (put_in_order-place new vs place are timed is newer)

@@ -24,6 +24,21 @@ shape_of_key key_length versions = record { key_length = key_length; record_leng
 abbrev pub shape_with : Key → List Version → KeyShape
 shape_with key versions = shape_of_key (length key) (map shape versions)
 
+-- what a key of this length adds with versions of these shapes
+abbrev pub share_by : ℕ → ℕ → List VersionShape → Sums
+share_by now key_length [] = no_sums
+share_by now key_length (v ∷ vs) = key_sums now (shape_of_key key_length (v ∷ vs))
+
+-- the shape, where there is one, as a list
+abbrev pub newest_shape : Option VersionShape → List VersionShape
+newest_shape None = []
+newest_shape (Some v) = v ∷ []
+
+-- how much a statistic changes at a moment where a version of one shape comes on top of the newest one, of the other
+abbrev pub change_by_shapes : ℕ → ℕ → VersionShape → Option VersionShape → Field → ℤ
+change_by_shapes now key_length new newest f =
+    difference (share_by now key_length (newest_shape newest)) (share_by now key_length (new ∷ newest_shape newest)) f
+
 -- what a key with these versions adds
 abbrev pub share_of : ℕ → Key → List Version → Sums
 share_of now key [] = no_sums

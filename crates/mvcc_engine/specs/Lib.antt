@@ -4,6 +4,8 @@ pub mod Write
 pub mod Step
 pub mod Places
 pub mod Spelled
+pub mod Stored
+pub mod Lent
 pub mod Change
 pub mod Kept
 pub mod Seen

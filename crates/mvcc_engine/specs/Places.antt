@@ -1,5 +1,5 @@
 -- Where versions stand in the list of all.
-use Rattle.std.specs.Prelude.{◌≡◌, ℕ, ◌≤◌, Bool, true, false, List, [], ◌∷◌, length, take, drop, Option, Some, None, if◌then◌else◌, IfSome}
+use Rattle.std.specs.Prelude.{◌≡◌, ℕ, ◌≤◌, Bool, true, false, List, [], ◌∷◌, length, take, drop, count_by, Option, Some, None, if◌then◌else◌, IfSome}
 use Rattle.std.specs.List.{AllByRecursion}
 use Rattle.std.specs.List.Sorted.{IsStrictlySortedBy}
 use Rattle.std.specs.Ordering.{match_ordering}
@@ -31,10 +31,14 @@ abbrev pub version_at : Key → List Version → Option Version
 version_at key [] = None
 version_at key (v ∷ vs) = if is_same_key v.key key then Some v else None
 
--- the timestamp of that version, where it is not before this one
-abbrev pub in_the_way : Timestamp → Option Version → Option Timestamp
+-- the newest version of the key: the first that is of no lower key, where it is one of the key
+unfoldable pub newest_version : Key → List Version → Option Version
+newest_version key vs = version_at key (drop (count_by (is_of_lower_key key) vs) vs)
+
+-- the timestamp, where it is not before this one
+abbrev pub in_the_way : Timestamp → Option Timestamp → Option Timestamp
 in_the_way ts None = None
-in_the_way ts (Some v) = if is_before v.ts ts then None else Some v.ts
+in_the_way ts (Some t) = if is_before t ts then None else Some t
 
 -- a history that has these versions alone
 abbrev pub history_of : List Version → History

@@ -1,11 +1,12 @@
 -- A write that is not refused, before it is carried out.
-use Rattle.std.specs.Prelude.{◌≡◌, ℕ, max, Bool, true, false, drop, List, Ok, IfSome}
+use Rattle.std.specs.Prelude.{◌≡◌, ℕ, max, Bool, false, List, Ok}
 use Rattle.mvcc_key.specs.Lists.{put_in_order}
-use Rattle.mvcc_key.specs.Order.{Timestamp, Key, is_no_time, is_before}
+use Rattle.mvcc_key.specs.Order.{Timestamp, Key, is_no_time}
 use Rattle.mvcc_key.specs.History.{Body, Version, version_cmp}
 use Rattle.mvcc_engine.specs.Write.{new_version, write}
-use Rattle.mvcc_engine.specs.Step.{State, Reply, statistics, change}
-use Rattle.mvcc_engine.specs.Places.{IsPlace, is_of_lower_key, version_at, history_of}
+use Rattle.mvcc_engine.specs.Step.{State, Reply, statistics, parts_after, change}
+use Rattle.mvcc_engine.specs.Places.{history_of}
+use Rattle.mvcc_engine.specs.Stored.{IsShort}
 use Rattle.mvcc_engine.specs.Kept.{IsKept}
 use Rattle.mvcc_engine.specs.declared.plan.Planned.{Planned}
 
@@ -19,14 +20,13 @@ moment s ts = max s.last ts.wall
 
 -- the state after the write
 abbrev pub state_after : State → Key → Timestamp → Body → State
-state_after s key ts body = record { history = history_of (after s key ts body); last = moment s ts; count_max = s.count_max }
+state_after s key ts body = record { history = history_of (after s key ts body); last = moment s ts; count_max = s.count_max; parts = parts_after s (history_of (after s key ts body)) }
 
--- it is planned as its rule says: the version that it adds, the place of its key, and the statistics after it
+-- it is planned as its rule says: the version that it adds, and the statistics after it
 pub record IsPlanned (s : State) (key : Key) (ts : Timestamp) (body : Body) (p : Planned) : Type 0 where
   pub version : p.version ≡ new_version key ts body
   pub timed : is_no_time ts ≡ false
-  pub place : IsPlace (is_of_lower_key key) s.history.versions p.place
-  pub newer : IfSome (version_at key (drop p.place s.history.versions)) (λ v. is_before v.ts ts ≡ true)
+  pub short : IsShort (new_version key ts body)
   pub kept : IsKept (moment s ts) (new_version key ts body)
   pub stats : p.stats ≡ record { sums = statistics (moment s ts) (history_of (after s key ts body)); last = moment s ts; count_max = s.count_max }
   pub taken : (reply : Bool → Reply) → change s ts reply (write s.history key ts body) ≡ Ok (record { state = state_after s key ts body; reply = reply p.was_there })

@@ -2,6 +2,7 @@
 use Rattle.std.specs.Prelude.{◌≡◌, Option, Some, None, Result, Ok, Err, ⊤}
 use Rattle.mvcc_key.specs.Refusal as refusals
 use Rattle.mvcc_key.specs.Seen.{time_of}
+use Rattle.mvcc_key.specs.declared.memory.OutOfMemory.{OutOfMemory}
 use Rattle.stat_core.specs.Seen.{field_of}
 use Rattle.mvcc_engine.specs.Step.{State, Reply, Finished, Stepped}
 use Rattle.mvcc_engine.specs.declared.refusal.Refusal.{Refusal}
@@ -38,3 +39,8 @@ Answers (Err why) reply old new answer = (new ≡ old) × Tells (refusal_of why)
 abbrev pub AnswersAge : {A : Type 0} → Result A AgeFault → State → State → Result Stepped refusals.Refusal → Type 0
 AnswersAge (Ok done) old new answer = answer ≡ Ok (record { state = new; reply = Finished })
 AnswersAge (Err why) old new answer = (new ≡ old) × (answer ≡ Err (fault_of why))
+
+-- so is one that only want of memory can refuse
+abbrev pub AnswersUnlessFull : {A : Type 0} → Result A OutOfMemory → (A → Reply) → State → State → Result Stepped refusals.Refusal → Type 0
+AnswersUnlessFull (Ok a) reply old new answer = answer ≡ Ok (record { state = new; reply = reply a })
+AnswersUnlessFull (Err why) reply old new answer = new ≡ old

@@ -1,5 +1,5 @@
 -- One command: its answer, and the state after it.
-use Rattle.std.specs.Prelude.{ℕ, max, Bool, Option, Some, None, Result, Ok, Err, nat_lt}
+use Rattle.std.specs.Prelude.{ℕ, max, Bool, List, Option, Some, None, Result, Ok, Err, nat_lt}
 use Rattle.mvcc_key.specs.Steps.{◌>>=◌, unless_fault}
 use Rattle.mvcc_key.specs.Order.{Timestamp, Key}
 use Rattle.mvcc_key.specs.History.{Body, Deletion, History, Changed, empty_history}
@@ -8,27 +8,32 @@ use Rattle.mvcc_key.specs.Field.{Field}
 use Rattle.mvcc_key.specs.Refusal.{Refusal, MomentTooEarly, CountOverflow}
 use Rattle.mvcc_value.specs.Found.{Found}
 use Rattle.stat_core.specs.ComputeStats.{Sums, compute_stats, overflowing}
+use Rattle.lsm_store.specs.Parts.{Part, Stage, first_parts, after_batch, flushed, compacted, PartShape, layout}
 use Rattle.mvcc_engine.specs.StoredPairs.{stored_pairs}
 use Rattle.mvcc_engine.specs.Read.{get}
 use Rattle.mvcc_engine.specs.Write.{write}
 
--- the history, the latest moment that was stored or aged to, and the bound on each of the statistics
+-- the history, the latest moment that was stored or aged to, the bound on each of the statistics, and what each part names
 pub record State : Type 0 where
   pub history : History
   pub last : ℕ
   pub count_max : ℕ
+  pub parts : List Part
 
 -- nothing is stored
 abbrev pub first_state : ℕ → State
-first_state count_max = record { history = empty_history; last = 0; count_max = count_max }
+first_state count_max = record { history = empty_history; last = 0; count_max = count_max; parts = first_parts }
 
 -- what can be asked
 pub data Command : Type 0 where
   Put : (key : Key) (ts : Timestamp) (value : Body) → Command
   Delete : (key : Key) (ts : Timestamp) → Command
   Age : (now : ℕ) → Command
+  Flush : Command
+  Compact : (keep : ℕ) → Command
   Get : (key : Key) (ts : Timestamp) → Command
   Stats : Command
+  Layout : Command
 
 -- what is answered
 pub data Reply : Type 0 where
@@ -36,11 +41,16 @@ pub data Reply : Type 0 where
   WasThere : (there : Bool) → Reply
   Got : (found : Option Found) → Reply
   Statistics : (sums : Sums) (now : ℕ) → Reply
+  Parts : (shapes : List PartShape) → Reply
 
 -- the state after a command, and its reply
 pub record Stepped : Type 0 where
   pub state : State
   pub reply : Reply
+
+-- the pairs and the fragments of a history
+abbrev pub stage : History → Stage
+stage h = record { pairs = stored_pairs h; fragments = fragments h.tombstones }
 
 -- the statistics of the whole history at a moment
 unfoldable pub statistics : ℕ → History → Sums
@@ -51,28 +61,39 @@ abbrev pub unless_overflow : {A : Type 0} → Option Field → A → Result A Re
 unless_overflow None x = Ok x
 unless_overflow (Some f) x = Err (CountOverflow f)
 
--- the state with this history at this moment, unless a statistic passes the bound then
-abbrev pub settled : State → History → ℕ → Reply → Result Stepped Refusal
-settled s h now reply =
+-- the state with this history and these parts at this moment, unless a statistic passes the bound then
+abbrev pub settled : State → History → ℕ → List Part → Reply → Result Stepped Refusal
+settled s h now parts reply =
     unless_overflow (overflowing s.count_max (statistics now h))
-    (record { state = record { history = h; last = now; count_max = s.count_max }; reply = reply })
+    (record { state = record { history = h; last = now; count_max = s.count_max; parts = parts }; reply = reply })
+
+-- the parts after one history gave way to another
+abbrev pub parts_between : History → History → List Part → List Part
+parts_between before after parts = after_batch (stage before) (stage after) parts
+
+-- the parts where this history comes in place of the state's
+abbrev pub parts_after : State → History → List Part
+parts_after s h = parts_between s.history h s.parts
 
 -- the state after a write at a timestamp
 abbrev pub change : State → Timestamp → (Bool → Reply) → Result (Changed Bool) Refusal → Result Stepped Refusal
 change s ts reply written = do
   c ← written
-  settled s c.history (max s.last ts.wall) (reply c.answer)
+  settled s c.history (max s.last ts.wall) (parts_after s c.history) (reply c.answer)
 
 -- the state at a later moment
 abbrev pub age_to : State → ℕ → Result Stepped Refusal
 age_to s now = do
   later ← unless_fault (nat_lt now s.last) (MomentTooEarly s.last) now
-  settled s s.history now Finished
+  settled s s.history now s.parts Finished
 
 -- the answer to a command and the state after it, or why it is refused; a refused command leaves the state
 unfoldable pub step : State → Command → Result Stepped Refusal
 step s (Put key ts value) = change s ts (λ there. Finished) (write s.history key ts value)
 step s (Delete key ts) = change s ts WasThere (write s.history key ts Deletion)
 step s (Age now) = age_to s now
+step s Flush = Ok (record { state = record s { parts = flushed s.parts }; reply = Finished })
+step s (Compact keep) = Ok (record { state = record s { parts = compacted keep s.parts }; reply = Finished })
 step s (Get key ts) = Ok (record { state = s; reply = Got (get s.history key ts) })
 step s Stats = Ok (record { state = s; reply = Statistics (statistics s.last s.history) s.last })
+step s Layout = Ok (record { state = s; reply = Parts (layout s.parts) })

@@ -6,25 +6,28 @@ ghost use Rattle.stat_core.specs.ComputeStats.{field, key_sums};
 ghost use Rattle.stat_core.specs.Limits.{IsInLimits};
 ghost use Rattle.stat_core.specs.Seen as shapes;
 ghost use Rattle.stat_core.specs.Seen.{number};
-ghost use Rattle.mvcc_engine.specs.Change.{change_by, shape_of_key};
-ghost use Rattle.mvcc_engine.specs.Kept.{IsKept};
+ghost use Rattle.mvcc_engine.specs.Change.{change_by_shapes, shape_of_key};
 
-use crate::version::StoredVersion;
 use stat_core::{Group, GroupRef, VersionShape};
 
 /// By how much the statistics at a moment change where the version comes on top of the newest one of its key. Only these two
 /// are looked at, however many versions the key has.
-pub fn change_of(version: &StoredVersion, newest: Option<&StoredVersion>, now: u64) -> Group
-    requires version { IsKept now version.now }
-    requires newest { IfSome newest (λ v. IsKept now v.now) }
-    ensures { (f : Field) → number f result ≡ change_by now version.now (option_map (λ v. v.now) newest.entry) f }
+pub fn change_of(
+    key_len: u64,
+    version: VersionShape,
+    newest: Option<VersionShape>,
+    now: u64,
+) -> Group
+    requires key { key_len ≤ 2 ^ 25 }
+    requires version { version.value_len ≤ 2 ^ 25 }
+    requires newest { IfSome newest (λ v. v.value_len ≤ 2 ^ 25) }
+    ensures { (f : Field) → number f result ≡ change_by_shapes now key_len (shapes.version_of version) (option_map shapes.version_of newest) f }
 {
-    let key_len = version.key().len() as u64;
     let Some(newest) = newest else {
-        return group_of_key(key_len, &[version.shape()], now);
+        return group_of_key(key_len, &[version], now);
     };
-    let before = group_of_key(key_len, &[newest.shape()], now);
-    let after = group_of_key(key_len, &[version.shape(), newest.shape()], now);
+    let before = group_of_key(key_len, &[newest], now);
+    let after = group_of_key(key_len, &[version, newest], now);
     after.difference(&before)
 }
 

@@ -6,14 +6,16 @@
 //! delete_at a@5     a@5 a@3=z a@1=x live_count=0, and all is garbage
 //! get_at  a@4       a@3=z
 //! ```
-ghost use Rattle.std.specs.Prelude.{◌≡◌, ◌<◌, ◌^◌, Bool, IfOk, MatchResult};
+ghost use Rattle.std.specs.Prelude.{◌≡◌, ◌≤◌, ◌<◌, ◌^◌, Bool, map, IfOk, MatchResult};
 ghost use Rattle.std.specs.Option.{option_map};
 ghost use Rattle.mvcc_key.specs.Seen.{time_of};
 ghost use Rattle.mvcc_value.specs.Seen.{found_of, plain_body, seen_body};
+ghost use Rattle.lsm_store.specs.Parts.{layout};
+ghost use Rattle.lsm_store.specs.Seen.{seen_shape};
 ghost use Rattle.mvcc_engine.specs.Read.{get};
 ghost use Rattle.mvcc_engine.specs.Write.{write};
-ghost use Rattle.mvcc_engine.specs.Step.{Put, Delete, Age, Reply, Finished, WasThere, change, first_state, statistics, step};
-ghost use Rattle.mvcc_engine.specs.Seen.{Answers, AnswersAge, Tells, refusal_of};
+ghost use Rattle.mvcc_engine.specs.Step.{Put, Delete, Age, Flush, Compact, Reply, Finished, WasThere, change, first_state, statistics, step};
+ghost use Rattle.mvcc_engine.specs.Seen.{Answers, AnswersAge, AnswersUnlessFull, Tells, refusal_of};
 ghost use Rattle.mvcc_engine.specs.Plan.{IsPlanned};
 
 use crate::change::change_of;
@@ -21,6 +23,7 @@ use crate::plan::{Planned, check, is_value, past};
 use crate::refusal::{AgeFault, Refusal};
 use crate::version::StoredVersion;
 use crate::versions::Versions;
+use lsm_store::PartShape;
 use mvcc_key::{OutOfMemory, Timestamp};
 use mvcc_value::{Body, Found, PlainValue};
 use stat_core::Stats;
@@ -44,9 +47,9 @@ impl Model for Engine {
 
     ghost Value = { State };
 
-    ghost view = { λ e. record { history = history_of e.versions; last = e.stats.last; count_max = e.stats.count_max } };
+    ghost view = { λ e. record { history = history_of e.versions.versions; last = e.stats.last; count_max = e.stats.count_max; parts = e.versions.parts } };
 
-    ghost invariant = { λ e. IsCounted e.versions e.stats };
+    ghost invariant = { λ e. IsCounted e.versions.versions e.stats };
 }
 
 impl Engine {
@@ -90,11 +93,7 @@ impl Engine {
     pub fn get_at(&self, key: &[u8], ts: Timestamp) -> Result<Option<Found>, OutOfMemory>
         ensures { IfOk result (λ found. option_map found_of found ≡ get self.now.history key.now (time_of ts)) }
     {
-        let place = self.versions.place_at(key, ts);
-        match self.versions.version_at(place, key) {
-            Some(version) => version.row(self.alloc),
-            None => Ok(None),
-        }
+        self.versions.row_at(key, ts)
     }
 
     /// Ages the statistics to a moment, in nanoseconds of wall time.
@@ -110,6 +109,30 @@ impl Engine {
         Ok(())
     }
 
+    /// Makes a memory table that is not empty the newest run (Pebble `DB.Flush`). What is stored stays the same. Only want of memory
+    /// refuses it, and then everything is as it was.
+    pub fn flush(&mut self) -> Result<(), OutOfMemory>
+        ensures { AnswersUnlessFull result (λ done. Finished) self.old self.new (step self.old Flush) }
+    {
+        self.versions.flush()
+    }
+
+    /// Unites the oldest runs into one, so that at most `keep` runs are left (Pebble `DB.Compact`). What is stored stays the same.
+    /// Only want of memory refuses it, and then everything is as it was.
+    pub fn compact(&mut self, keep: u64) -> Result<(), OutOfMemory>
+        requires { 1 ≤ keep }
+        ensures { AnswersUnlessFull result (λ done. Finished) self.old self.new (step self.old (Compact keep)) }
+    {
+        self.versions.compact(keep)
+    }
+
+    /// How many names each part holds and clears: the memory table first, then the runs from the newest to the oldest.
+    pub fn layout(&self) -> Result<Vec<PartShape>, OutOfMemory>
+        ensures { IfOk result (λ shapes. map seen_shape shapes.items ≡ layout self.now.parts) }
+    {
+        self.versions.layout()
+    }
+
     /// The running statistics, which are those of a recount of what is stored at the latest moment.
     pub fn stats(&self) -> Stats
         ensures { result ≡ record { sums = statistics self.now.last self.now.history; last = self.now.last; count_max = self.now.count_max } }
@@ -122,7 +145,7 @@ impl Engine {
         ensures { (reply : Bool → Reply) → Answers result reply self.old self.new (change self.old (time_of ts) reply (write self.old.history key.now (time_of ts) (seen_body body.entry))) }
     {
         let planned = self.plan(key, body, ts)?;
-        self.versions.insert(planned.place, planned.version)?;
+        self.versions.put(planned.version)?;
         self.stats = planned.stats;
         Ok(planned.was_there)
     }
@@ -134,16 +157,15 @@ impl Engine {
             (λ why. (reply : Bool → Reply) → Tells (refusal_of why) (change self.now (time_of ts) reply (write self.now.history key.now (time_of ts) (seen_body body.entry)))) }
     {
         check(key, body, ts)?;
-        let place = self.versions.place_of(key);
-        let newest = self.versions.version_at(place, key);
+        let newest = self.versions.newest_of(key)?;
         past(newest, ts)?;
         let version = StoredVersion::copy(self.alloc, key, ts, body)?;
         let now = max(self.stats.last_update_nanos(), ts.wall());
         let mut stats = self.stats;
-        stats.settle(&change_of(&version, newest, now), now)?;
+        let change = change_of(key.len() as u64, version.shape(), newest, now);
+        stats.settle(&change, now)?;
         Ok(Planned {
             version,
-            place,
             stats,
             was_there: is_value(newest),
         })

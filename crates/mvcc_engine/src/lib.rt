@@ -9,6 +9,7 @@ mod version;
 mod versions;
 
 pub use engine::Engine;
+pub use lsm_store::PartShape;
 pub use refusal::{AgeFault, Refusal};
 
 #[cfg(test)]

@@ -1,27 +1,26 @@
 //! A write before it is carried out: what stands in its way, and what it comes to.
-ghost use Rattle.std.specs.Prelude.{◌≡◌, ◌≤◌, IfSome, OnOk, IfErr, Ok, false, true, length};
+ghost use Rattle.std.specs.Prelude.{◌≡◌, ◌≤◌, IsSome, OnOk, IfErr, MatchResult, MatchOption, Ok, None, false, not, length};
 ghost use Rattle.std.specs.Option.{option_map};
-ghost use Rattle.mvcc_key.specs.Order.{is_before, is_no_time};
-ghost use Rattle.mvcc_key.specs.History as history;
-ghost use Rattle.mvcc_key.specs.Items.{version_item};
+ghost use Rattle.mvcc_key.specs.Order.{is_no_time};
+ghost use Rattle.mvcc_key.specs.Refusal.{TooOld};
 ghost use Rattle.mvcc_key.specs.Seen.{time_of};
 ghost use Rattle.mvcc_value.specs.Seen.{seen_body};
+ghost use Rattle.mvcc_engine.specs.Places.{in_the_way};
 ghost use Rattle.mvcc_engine.specs.Seen.{Tells, refusal_of};
-ghost use Rattle.mvcc_engine.specs.Write.{checked, data_length, is_present, past_newest};
+ghost use Rattle.mvcc_engine.specs.Write.{checked, data_length};
 
 use crate::refusal::Refusal;
 use crate::version::StoredVersion;
 use mvcc_key::Timestamp;
 use mvcc_value::Body;
-use stat_core::Stats;
+use stat_core::{Stats, VersionShape};
+use std::cmp::Ordering;
 
 /// A write that is not refused.
 #[derive(Drop)]
 pub struct Planned {
     /// The version that it adds.
     pub version: StoredVersion,
-    /// Where the versions of its key begin.
-    pub place: usize,
     /// The statistics after it.
     pub stats: Stats,
     /// Whether a value was there before.
@@ -38,6 +37,7 @@ const MAX_DATA_LEN: usize = 1_048_576;
 pub fn check(key: &[u8], body: Body<'_>, ts: Timestamp) -> Result<(), Refusal>
     ensures ok { OnOk result (checked key.now (time_of ts) (seen_body body.entry) ≡ Ok (seen_body body.entry)) }
     ensures timed { OnOk result (is_no_time (time_of ts) ≡ false) }
+    ensures some { OnOk result (1 ≤ length key.now) }
     ensures key { OnOk result (length key.now ≤ 4096) }
     ensures data { OnOk result (data_length (seen_body body.entry) ≤ 1048576) }
     ensures err { IfErr result (λ why. Tells (refusal_of why) (checked key.now (time_of ts) (seen_body body.entry))) }
@@ -67,27 +67,27 @@ fn data_len(body: Body<'_>) -> usize
 }
 
 /// Whether the newest version of a key, where there is one, is older than a write.
-pub fn past(newest: Option<&StoredVersion>, ts: Timestamp) -> Result<(), Refusal>
-    ensures ok { OnOk result ((body : history.Body) → past_newest (time_of ts) (option_map (λ v. version_item v.now) newest.entry) body ≡ Ok body) }
-    ensures older { OnOk result (IfSome newest.entry (λ v. is_before v.now.ts (time_of ts) ≡ true)) }
-    ensures err { IfErr result (λ why. (body : history.Body) → Tells (refusal_of why) (past_newest (time_of ts) (option_map (λ v. version_item v.now) newest.entry) body)) }
+pub fn past(newest: Option<VersionShape>, ts: Timestamp) -> Result<(), Refusal>
+    ensures { MatchResult result
+        (λ _. in_the_way (time_of ts) (option_map (λ v. time_of v.ts) newest) ≡ None)
+        (λ why. IsSome (in_the_way (time_of ts) (option_map (λ v. time_of v.ts) newest))
+        × (refusal_of why ≡ option_map TooOld (in_the_way (time_of ts) (option_map (λ v. time_of v.ts) newest)))) }
 {
     let Some(newest) = newest else {
         return Ok(());
     };
-    if newest.is_before(ts) {
-        Ok(())
-    } else {
-        Err(Refusal::TooOld(newest.ts()))
+    match newest.ts.compare(ts) {
+        Ordering::Less => Ok(()),
+        Ordering::Equal | Ordering::Greater => Err(Refusal::TooOld(newest.ts)),
     }
 }
 
 /// Whether the newest version of a key is a value, and no deletion.
-pub fn is_value(newest: Option<&StoredVersion>) -> bool
-    ensures { result ≡ is_present (option_map (λ v. version_item v.now) newest.entry) }
+pub fn is_value(newest: Option<VersionShape>) -> bool
+    ensures { MatchOption newest (result ≡ false) (λ v. result ≡ not v.deletion) }
 {
     match newest {
-        Some(version) => !matches!(version.body(), Body::Deletion),
+        Some(version) => !version.deletion,
         None => false,
     }
 }

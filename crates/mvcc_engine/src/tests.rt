@@ -1,5 +1,5 @@
 use super::*;
-use mvcc_key::Timestamp;
+use mvcc_key::{OutOfMemory, Timestamp};
 use mvcc_value::{Found, PlainValue};
 use stat_core::{Field, Stats};
 use std::alloc::{AllocError, Global};
@@ -14,6 +14,8 @@ enum Call {
     Put(&'static [u8], u64, &'static [u8]),
     Delete(&'static [u8], u64),
     Age(u64),
+    Flush,
+    Compact(u64),
 }
 
 #[derive(Clone, Copy, PartialEq, Eq)]
@@ -48,6 +50,19 @@ fn answer_to(engine: &mut Engine, call: Call) -> Answer {
             Ok(there) => Answer::WasThere(there),
             Err(why) => Answer::Refused(why),
         },
+        Call::Flush => match engine.flush() {
+            Ok(()) => Answer::Done,
+            Err(OutOfMemory) => Answer::Refused(Refusal::OutOfMemory),
+        },
+        Call::Compact(keep) => {
+            if keep == 0 {
+                return Answer::Done;
+            }
+            match engine.compact(keep) {
+                Ok(()) => Answer::Done,
+                Err(OutOfMemory) => Answer::Refused(Refusal::OutOfMemory),
+            }
+        }
         Call::Age(now) => {
             if now > LARGEST {
                 return Answer::Done;
@@ -232,6 +247,54 @@ fn a_read_sees_the_newest_version_at_its_time(rt: HostRuntime) -> Result<(), Fai
         (b"c", 9, None),
     ];
     for (key, nanos, shown) in cases {
+        assert!(rt; shows(engine.get_at(key, at(nanos))?, shown));
+    }
+    Ok(())
+}
+
+/// How many names each of the first three parts of an engine holds.
+fn keys_of_parts(engine: &Engine) -> Result<[u64; 3], OutOfMemory> {
+    let shapes = engine.layout()?;
+    let mut keys = [0; 3];
+    for (i, shape) in shapes.iter().enumerate() {
+        if i < keys.len() {
+            keys[i] = shape.keys;
+        }
+    }
+    Ok(keys)
+}
+
+#[test]
+fn parts_come_and_go(rt: HostRuntime) -> Result<(), Fail> {
+    use Answer::{Done, WasThere};
+    use Call::{Compact, Delete, Flush, Put};
+    let steps: [(Call, Answer, [u64; 3]); 9] = [
+        (Put(b"a", 1, b"abc"), Done, [1, 0, 0]),
+        (Flush, Done, [0, 1, 0]),
+        (Flush, Done, [0, 1, 0]),
+        (Put(b"a", 2, b"x"), Done, [1, 1, 0]),
+        (Delete(b"b", 1), WasThere(false), [2, 1, 0]),
+        (Flush, Done, [0, 2, 1]),
+        (Compact(2), Done, [0, 2, 1]),
+        (Compact(1), Done, [0, 3, 0]),
+        (
+            Put(b"a", 2, b"y"),
+            Answer::Refused(Refusal::TooOld(at(2))),
+            [0, 3, 0],
+        ),
+    ];
+    let mut engine = bounded(rt.alloc(), LARGEST);
+    for (call, answer, keys) in steps {
+        assert!(rt; answer_to(&mut engine, call) == answer);
+        assert!(rt; keys_of_parts(&engine)? == keys);
+    }
+    assert!(rt; numbers(&engine.stats()) == [2, 40, 3, 14, 1, 20, 0, 2]);
+    let reads: [(&[u8], u64, Option<(&[u8], PlainValue<'_>, u64)>); 3] = [
+        (b"a", 1, Some((b"a", PlainValue::Bytes(b"abc"), 1))),
+        (b"a", 9, Some((b"a", PlainValue::Bytes(b"x"), 2))),
+        (b"b", 9, None),
+    ];
+    for (key, nanos, shown) in reads {
         assert!(rt; shows(engine.get_at(key, at(nanos))?, shown));
     }
     Ok(())

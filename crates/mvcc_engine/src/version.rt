@@ -1,49 +1,52 @@
 //! A committed version as it is stored.
-ghost use Rattle.std.specs.Prelude.{◌≡◌, IfOk};
-ghost use Rattle.mvcc_key.specs.Order.{is_before, is_same_key};
-ghost use Rattle.mvcc_key.specs.History as history;
+ghost use Rattle.std.specs.Prelude.{◌≡◌, ◌∷◌, [], Some, IfOk};
+ghost use Rattle.std.specs.Option.{option_map};
+ghost use Rattle.mvcc_key.specs.Order.{Key, Name};
 ghost use Rattle.mvcc_key.specs.Seen.{time_of};
+ghost use Rattle.mvcc_key.specs.SeenPoint.{points_of};
 ghost use Rattle.mvcc_value.specs.Encoding.{IsEncodable};
 ghost use Rattle.mvcc_value.specs.Seen.{found_of, seen_body};
+ghost use Rattle.mem_table.specs.Entries.{IsBatch};
 ghost use Rattle.stat_core.specs.DeadSince.{is_deletion_value, shape_of};
-ghost use Rattle.stat_core.specs.Seen as shape;
-ghost use Rattle.mvcc_engine.specs.Places.{is_ahead, is_of_lower_key};
-ghost use Rattle.mvcc_engine.specs.StoredPairs.{stored_pair, stored_value};
-ghost use Rattle.std.specs.Option.{option_map};
+ghost use Rattle.stat_core.specs.Seen as shapes;
+ghost use Rattle.mvcc_engine.specs.Change.{shape};
 ghost use Rattle.mvcc_engine.specs.Read.{row_of};
-ghost use Rattle.mvcc_engine.specs.Spelled.{IsSpelled};
+ghost use Rattle.mvcc_engine.specs.Spelled.{spelled_body};
+ghost use Rattle.mvcc_engine.specs.Stored.{point_of, version_of, IsShort};
 ghost use Rattle.mvcc_engine.specs.Write.{new_version};
 
-use mvcc_key::{Key, OutOfMemory, Timestamp};
+use mvcc_key::{Batch, Bytes, Items, Key, OutOfMemory, PointOp, Timestamp, encode_key};
 use mvcc_value::{Body, Found, OwnedValue, decode, encode};
 use stat_core::VersionShape;
 use std::alloc::Global;
-use std::cmp::Ordering;
 use std::marker::Model;
 
-/// A committed version of a key, with its value in bytes (CockroachDB `MVCCValue`). It keeps no local timestamp. Contracts see
-/// it as the version that it is.
+/// A version to be stored: its encoded key, and its value in bytes (CockroachDB `MVCCValue`). It keeps no local timestamp. Contracts
+/// see it as the version that it is.
 #[derive(Debug, Drop)]
 pub struct StoredVersion {
-    key: Key,
+    key: Bytes,
     ts: Timestamp,
-    value: Vec<u8>,
-    ghost spelled: { IsSpelled (time_of ts) value.items },
+    value: Bytes,
 }
 
 impl Model for StoredVersion {
-    ghost use Rattle.mvcc_key.specs.Order.{no_time};
+    ghost use Rattle.std.specs.Prelude.{Some};
+    ghost use Rattle.mvcc_key.specs.Encoded.{name_in};
     ghost use Rattle.mvcc_key.specs.Seen.{time_of};
     ghost use Rattle.mvcc_key.specs.History.{Version};
-    ghost use Rattle.mvcc_engine.specs.Spelled.{spelled_body};
+    ghost use Rattle.mvcc_engine.specs.Stored.{version_of};
+    ghost use Rattle.mvcc_engine.specs.Spelled.{IsSpelledAt};
 
     ghost Value = { Version };
 
-    ghost view = { λ v. record { key = v.key; ts = time_of v.ts; local = no_time; body = spelled_body (time_of v.ts) v.value.items } };
+    ghost view = { λ v. version_of (record { name = name_in v.key; value = Some v.value }) };
+
+    ghost invariant = { λ v. IsSpelledAt v.key (time_of v.ts) v.value };
 }
 
 impl StoredVersion {
-    /// A version with a key and a value of its own.
+    /// A version with bytes of its own.
     pub fn copy(
         alloc: Global,
         key: &[u8],
@@ -54,109 +57,88 @@ impl StoredVersion {
     {
         is_encodable(body);
         Ok(StoredVersion {
-            key: Key::copy(alloc, key)?,
+            key: Bytes::of(encode_key(alloc, key, ts)?),
             ts,
-            value: encode(alloc, body, Timestamp::NONE, ts)?,
+            value: Bytes::of(encode(alloc, body, Timestamp::NONE, ts)?),
         })
     }
 
-    /// Its key.
-    pub fn key(&self) -> &[u8]
-        ensures { result.now ≡ self.now.key }
+    /// What the statistics see of it.
+    pub fn shape(&self) -> VersionShape
+        ensures { shapes.version_of result ≡ shape self.now }
     {
-        self.key.bytes()
+        shape_of_bytes(self.ts, self.value.as_slice())
     }
 
-    /// Its timestamp.
-    pub fn ts(&self) -> Timestamp
-        ensures { time_of result ≡ self.now.ts }
+    /// The batch that sets it.
+    pub fn into_batch(self, alloc: Global) -> Result<Batch, OutOfMemory>
+        requires { IsShort self }
+        ensures points { IfOk result (λ b. points_of b.points ≡ point_of self ∷ []) }
+        ensures batch { IfOk result IsBatch }
+        ensures version { version_of (point_of self) ≡ self }
     {
-        self.ts
+        let mut points = Items::new(alloc);
+        points.push(PointOp {
+            key: self.key,
+            value: Some(self.value),
+        })?;
+        Ok(Batch {
+            points,
+            ranges: Items::new(alloc),
+        })
+    }
+}
+
+/// A version that is lent: its timestamp, and its value in bytes.
+#[derive(Clone, Copy, Debug)]
+pub struct VersionRef<'a> {
+    pub ts: Timestamp,
+    pub value: &'a [u8],
+}
+
+impl VersionRef<'_> {
+    /// What the statistics see of it.
+    pub fn shape(self) -> VersionShape
+        ensures { (key : Key) → shapes.version_of result ≡ shape_of (record { name = record { key = key; ts = time_of self.entry.ts }; value = self.entry.value.now }) }
+    {
+        shape_of_bytes(self.ts, self.value)
     }
 
-    /// The bytes of its value.
-    pub fn value(&self) -> &[u8]
-        ensures { result.now ≡ stored_value self.now }
+    /// It as a read of its key answers it: a deletion is nothing.
+    pub fn row(self, alloc: Global, key: &[u8]) -> Result<Option<Found>, OutOfMemory>
+        ensures { IfOk result (λ found. option_map found_of found ≡ row_of key.now (spelled_body (time_of self.entry.ts) self.entry.value.now) (time_of self.entry.ts)) }
     {
-        self.value.as_slice()
-    }
-
-    /// Its value.
-    pub fn body(&self) -> Body<'_>
-        ensures { seen_body result ≡ self.now.body }
-    {
-        match decode(self.value.as_slice(), self.ts) {
-            Ok(value) => value.body,
-            Err(_) => Body::Deletion,
-        }
-    }
-
-    /// It as a read answers it: a deletion is nothing.
-    pub fn row(&self, alloc: Global) -> Result<Option<Found>, OutOfMemory>
-        ensures { IfOk result (λ found. option_map found_of found ≡ row_of self.now.key self.now.body self.now.ts) }
-    {
-        let value = match self.body() {
+        let value = match body_in(self.ts, self.value) {
             Body::Deletion => return Ok(None),
             Body::Bytes(bytes) => OwnedValue::Bytes(Key::copy(alloc, bytes)?),
             Body::Int(number) => OwnedValue::Int(number),
         };
         Ok(Some(Found {
-            key: Key::copy(alloc, self.key())?,
+            key: Key::copy(alloc, key)?,
             value,
             ts: self.ts,
         }))
     }
+}
 
-    /// Whether it is one of the key.
-    pub(crate) fn is_of(&self, key: &[u8]) -> bool
-        ensures { result ≡ is_same_key self.now.key key.now }
-    {
-        self.key.bytes() == key
+/// The value that bytes spell; stored bytes always spell one.
+fn body_in(ts: Timestamp, bytes: &[u8]) -> Body<'_>
+    ensures { seen_body result ≡ spelled_body (time_of ts) bytes.now }
+{
+    match decode(bytes, ts) {
+        Ok(value) => value.body,
+        Err(_) => Body::Deletion,
     }
+}
 
-    /// Whether it is older than the timestamp.
-    pub(crate) fn is_before(&self, ts: Timestamp) -> bool
-        ensures { result ≡ is_before self.now.ts (time_of ts) }
-    {
-        match self.ts.compare(ts) {
-            Ordering::Less => true,
-            Ordering::Equal | Ordering::Greater => false,
-        }
-    }
-
-    /// Whether it stands before where a read of the key at the timestamp begins.
-    pub(crate) fn is_ahead(&self, key: &[u8], ts: Timestamp) -> bool
-        ensures { result ≡ is_ahead key.now (time_of ts) self.now }
-    {
-        match self.key.bytes().cmp(key) {
-            Ordering::Less => true,
-            Ordering::Equal => match ts.compare(self.ts) {
-                Ordering::Less => true,
-                Ordering::Equal | Ordering::Greater => false,
-            },
-            Ordering::Greater => false,
-        }
-    }
-
-    /// Whether its key is below this one.
-    pub(crate) fn is_of_lower_key(&self, key: &[u8]) -> bool
-        ensures { result ≡ is_of_lower_key key.now self.now }
-    {
-        match self.key.bytes().cmp(key) {
-            Ordering::Less => true,
-            Ordering::Equal | Ordering::Greater => false,
-        }
-    }
-
-    /// What the statistics see of it.
-    pub(crate) fn shape(&self) -> VersionShape
-        ensures { shape.version_of result ≡ shape_of (stored_pair self.now) }
-    {
-        VersionShape {
-            ts: self.ts,
-            value_len: self.value.len() as u64,
-            deletion: is_deletion_value(self.value.as_slice()),
-        }
+/// What the statistics see of a version with these bytes.
+fn shape_of_bytes(ts: Timestamp, bytes: &[u8]) -> VersionShape
+    ensures { (key : Key) → shapes.version_of result ≡ shape_of (record { name = record { key = key; ts = time_of ts }; value = bytes.now }) }
+{
+    VersionShape {
+        ts,
+        value_len: bytes.len() as u64,
+        deletion: is_deletion_value(bytes),
     }
 }
 

@@ -1,4 +1,4 @@
-//! The committed versions of all keys, in a sorted vector.
+//! The committed versions of all keys, in a store of parts.
 //!
 //! A key's versions stand side by side, the newest first:
 //!
@@ -8,116 +8,186 @@
 //! put k=a ts=3 v=z    a@3=z  a@1=x  b@1=y
 //! get k=a ts=2        a@1=x
 //! ```
-ghost use Rattle.std.specs.Prelude.{◌≡◌, [], drop, false, true, OnOk, OnErr, IfSome};
+ghost use Rattle.std.specs.Prelude.{◌≡◌, ◌≤◌, ◌<◌, ◌+◌, ◌-◌, map, false, OnOk, OnErr, IfOk, IsOk};
 ghost use Rattle.std.specs.Option.{option_map};
 ghost use Rattle.mvcc_key.specs.Lists.{put_in_order};
-ghost use Rattle.mvcc_key.specs.Order.{is_before, is_no_time};
+ghost use Rattle.mvcc_key.specs.Order.{is_no_time, is_same_key};
+ghost use Rattle.mvcc_key.specs.KeyFormat.{name_of};
+ghost use Rattle.mvcc_key.specs.Encoded.{name_in};
+ghost use Rattle.mvcc_key.specs.Points.{point_at, count_below};
 ghost use Rattle.mvcc_key.specs.History.{version_cmp};
 ghost use Rattle.mvcc_key.specs.Seen.{time_of};
-ghost use Rattle.mvcc_engine.specs.Places.{AreVersions, IsPlace, is_ahead, is_of_lower_key, version_at};
+ghost use Rattle.mvcc_value.specs.Seen.{found_of};
+ghost use Rattle.lsm_store.specs.Parts.{flushed, compacted, layout};
+ghost use Rattle.lsm_store.specs.Seen.{seen_shape};
+ghost use Rattle.lsm_store.specs.Shown.{shown};
+ghost use Rattle.stat_core.specs.Seen as shapes;
+ghost use Rattle.mvcc_engine.specs.Change.{shape};
+ghost use Rattle.mvcc_engine.specs.Lent.{lent_point};
+ghost use Rattle.mvcc_engine.specs.Places.{AreVersions, newest_version, history_of};
+ghost use Rattle.mvcc_engine.specs.Read.{get};
+ghost use Rattle.mvcc_engine.specs.Step.{parts_between};
+ghost use Rattle.mvcc_engine.specs.Stored.{IsShort, nothing_held, of_key};
 
-use crate::version::StoredVersion;
-use mvcc_key::{OutOfMemory, Timestamp};
+use crate::version::{StoredVersion, VersionRef};
+use lsm_store::{PartShape, Store, StoreCursor};
+use mvcc_key::{Cursor, OutOfMemory, Steps, Timestamp, decode_key, encode_key};
+use mvcc_value::Found;
+use stat_core::VersionShape;
 use std::alloc::Global;
-use std::marker::Model;
+use std::marker::{Brand, Model};
+use std::sync::ledger::{Blank, Ledger};
 
-/// All versions in the order of stored pairs. Contracts see them as that list.
-#[derive(Debug, Drop)]
+/// All versions in the order of stored pairs. Contracts see that list, and what each part of the store names.
+#[derive(Drop)]
 pub struct Versions {
-    held: Vec<StoredVersion>,
+    alloc: Global,
+    store: Store,
 }
 
 impl Model for Versions {
-    ghost use Rattle.std.specs.Prelude.{List};
-    ghost use Rattle.mvcc_key.specs.History.{Version};
-    ghost use Rattle.mvcc_engine.specs.Places.{AreVersions};
+    ghost use Rattle.std.specs.List.{AllByRecursion};
+    ghost use Rattle.lsm_store.specs.Shown.{shown};
+    ghost use Rattle.mvcc_engine.specs.Stored.{Held, held_in, IsVersion};
 
-    ghost Value = { List Version };
+    ghost Value = { Held };
 
-    ghost view = { λ v. v.held.items };
+    ghost view = { λ v. held_in v.store };
 
-    ghost invariant = { λ v. AreVersions v.held.items };
+    ghost invariant = { λ v. AllByRecursion IsVersion (shown v.store) };
 }
 
 impl Versions {
     /// No versions.
     pub fn new(alloc: Global) -> Self
-        ensures { result ≡ [] }
+        ensures { result ≡ nothing_held }
     {
         Versions {
-            held: Vec::new(alloc),
+            alloc,
+            store: Store::new(alloc),
         }
     }
 
-    /// Where a read of the key at the timestamp begins, by halves.
-    pub fn place_at(&self, key: &[u8], ts: Timestamp) -> usize
-        ensures place { IsPlace (is_ahead key.now (time_of ts)) self.now result }
-        ensures versions { AreVersions self.now }
+    /// What the statistics see of the newest version of the key, by one seek.
+    pub fn newest_of(&self, key: &[u8]) -> Result<Option<VersionShape>, OutOfMemory>
+        ensures newest { IfOk result (λ newest. option_map shapes.version_of newest ≡ option_map shape (newest_version key.now self.now.versions)) }
+        ensures versions { AreVersions self.now.versions }
     {
-        place_at(self.held.as_slice(), key, ts)
+        let sought = encode_key(self.alloc, key, Timestamp::NONE)?;
+        let cursor = cursor_at(&self.store, sought.as_slice())?;
+        match version_here(&cursor, key) {
+            Some(version) => Ok(Some(version.shape())),
+            None => Ok(None),
+        }
     }
 
-    /// Where the versions of the key begin, by halves.
-    pub fn place_of(&self, key: &[u8]) -> usize
-        ensures place { IsPlace (is_of_lower_key key.now) self.now result }
-        ensures versions { AreVersions self.now }
+    /// The newest version of the key that is not newer than the timestamp, where it is no deletion, by one seek.
+    pub fn row_at(&self, key: &[u8], ts: Timestamp) -> Result<Option<Found>, OutOfMemory>
+        ensures { IfOk result (λ found. option_map found_of found ≡ get (history_of self.now.versions) key.now (time_of ts)) }
     {
-        place_of(self.held.as_slice(), key)
+        let store = &self.store;
+        if is_none(ts) {
+            return Ok(None);
+        }
+        let sought = encode_key(self.alloc, key, ts)?;
+        let cursor = cursor_at(store, sought.as_slice())?;
+        match version_here(&cursor, key) {
+            Some(version) => version.row(self.alloc, key),
+            None => Ok(None),
+        }
     }
 
-    /// The version at the place, where it is one of the key.
-    pub fn version_at(&self, place: usize, key: &[u8]) -> Option<&StoredVersion>
-        ensures { option_map (λ v. v.now) result ≡ version_at key.now (drop place self.now) }
-    {
-        version_of_key(self.held.as_slice(), place, key)
-    }
-
-    /// Adds a version at the place where its key begins. It is newer than the others of its key. Where memory is wanting the
-    /// versions stay as they were.
-    pub fn insert(&mut self, place: usize, version: StoredVersion) -> Result<(), OutOfMemory>
+    /// Adds a version. Where memory is wanting the versions stay as they were.
+    pub fn put(&mut self, version: StoredVersion) -> Result<(), OutOfMemory>
         requires timed { is_no_time version.ts ≡ false }
-        requires place { IsPlace (is_of_lower_key version.key) self.old place }
-        requires newer { IfSome (version_at version.key (drop place self.old)) (λ v. is_before v.ts version.ts ≡ true) }
-        ensures ok { OnOk result (self.new ≡ put_in_order version_cmp version self.old) }
+        requires short { IsShort version }
+        ensures versions { OnOk result (self.new.versions ≡ put_in_order version_cmp version self.old.versions) }
+        ensures parts { OnOk result (self.new.parts ≡ parts_between (history_of self.old.versions) (history_of self.new.versions) self.old.parts) }
         ensures err { OnErr result (self.new ≡ self.old) }
     {
-        self.held.insert(place, version)?;
-        Ok(())
+        let batch = version.into_batch(self.alloc)?;
+        self.store.apply(batch)
+    }
+
+    /// Makes a memory table that is not empty the newest run.
+    pub fn flush(&mut self) -> Result<(), OutOfMemory>
+        ensures versions { self.new.versions ≡ self.old.versions }
+        ensures parts { OnOk result (self.new.parts ≡ flushed self.old.parts) }
+        ensures err { OnErr result (self.new ≡ self.old) }
+    {
+        self.store.flush()
+    }
+
+    /// Unites the oldest runs into one, so that at most `keep` are left.
+    pub fn compact(&mut self, keep: u64) -> Result<(), OutOfMemory>
+        requires { 1 ≤ keep }
+        ensures versions { self.new.versions ≡ self.old.versions }
+        ensures parts { OnOk result (self.new.parts ≡ compacted keep self.old.parts) }
+        ensures err { OnErr result (self.new ≡ self.old) }
+    {
+        self.store.compact(keep)
+    }
+
+    /// How many names each part holds and clears.
+    pub fn layout(&self) -> Result<Vec<PartShape>, OutOfMemory>
+        ensures { IfOk result (λ parts. map seen_shape parts.items ≡ layout self.now.parts) }
+    {
+        self.store.layout()
     }
 }
 
-/// Where a read of the key at the timestamp begins.
-fn place_at(versions: &[StoredVersion], key: &[u8], ts: Timestamp) -> usize
-    requires { AreVersions versions.now }
-    ensures { IsPlace (is_ahead key.now (time_of ts)) versions.now result }
+/// A cursor at the first pair that is not below the encoded key.
+fn cursor_at<'a>(store: &'a Store, sought: &[u8]) -> Result<StoreCursor<'a>, OutOfMemory>
+    requires { IsOk (name_of sought.now) }
+    ensures points { IfOk result (λ c. ⟦<StoreCursor<'a> as Cursor>⟧.points c ≡ shown store.now) }
+    ensures place { IfOk result (λ c. ⟦<StoreCursor<'a> as Cursor>⟧.place c ≡ count_below (name_in sought.now) (shown store.now) + 1) }
 {
-    versions.partition_point(|version| version.is_ahead(key, ts))
+    let mut cursor = store.cursor()?;
+    seek::<StoreCursor<'a>, Brand>(&mut cursor, sought, Blank::new(1));
+    Ok(cursor)
 }
 
-/// Where the versions of the key begin.
-fn place_of(versions: &[StoredVersion], key: &[u8]) -> usize
-    requires { AreVersions versions.now }
-    ensures { IsPlace (is_of_lower_key key.now) versions.now result }
+/// Seeks, and counts the looks for nobody.
+fn seek<C: Cursor, L: Ledger>(cursor: &mut C, sought: &[u8], blank: Blank)
+    requires sought { IsOk (name_of sought.now) }
+    requires name { blank.name ≡ L.name }
+    requires parts { blank.parts ≡ L.parts }
+    requires some { 0 < blank.parts }
+    ensures points { C.points cursor.new ≡ C.points cursor.old }
+    ensures place { C.place cursor.new ≡ count_below (name_in sought.now) (C.points cursor.old) + 1 }
 {
-    versions.partition_point(|version| version.is_of_lower_key(key))
+    let mut steps = Steps::<L>::new(blank);
+    cursor.seek_ge(sought, &mut steps);
 }
 
-/// The version at the place, where it is one of the key.
-fn version_of_key<'a>(
-    versions: &'a [StoredVersion],
-    place: usize,
-    key: &[u8],
-) -> Option<&'a StoredVersion>
-    ensures { option_map (λ v. v.now) result ≡ version_at key.now (drop place versions.now) }
+/// The version at which the cursor stands, where it is one of the key.
+fn version_here<'a, C: Cursor>(cursor: &'a C, key: &[u8]) -> Option<VersionRef<'a>>
+    ensures { option_map (lent_point key.now) result ≡ of_key key.now (point_at (C.points cursor.now) (C.place cursor.now)) }
 {
-    match versions.get(place) {
-        Some(version) => {
-            if version.is_of(key) {
-                Some(version)
+    let encoded = cursor.key()?;
+    let value = cursor.value()?;
+    match decode_key(encoded) {
+        Ok(name) => {
+            if is_same(name.key, key) {
+                Some(VersionRef { ts: name.ts, value })
             } else {
                 None
             }
         }
-        None => None,
+        Err(_) => None,
     }
+}
+
+/// Whether it is the timestamp that stands for none.
+fn is_none(ts: Timestamp) -> bool
+    ensures { result ≡ is_no_time (time_of ts) }
+{
+    ts == Timestamp::NONE
+}
+
+/// Whether both keys are the same.
+fn is_same(a: &[u8], b: &[u8]) -> bool
+    ensures { result ≡ is_same_key a.now b.now }
+{
+    a == b
 }

@@ -6,6 +6,8 @@ pub mod EscapeLaws
 pub mod OptionLaws
 pub mod TextLaws
 pub mod StepLaws
+pub mod PartLaws
+pub mod LayoutLaws
 pub mod LineLaws
 pub mod ReadLaws
 pub mod GatherLaws

@@ -1,6 +1,9 @@
 -- What a line does to the state, and its answers.
 use Rattle.std.specs.Prelude.{◌≡◌, ℕ, Bool, true, false, List, [], ◌∷◌, ◌++◌, cond, Option, Some, None, Result, Ok, Err, OnOk, IfSome, IsSome}
-use Rattle.std.proofs.Common.{refl, sym, ap, ◌∙◌, append-nil, append_assoc, Bor}
+use Rattle.std.specs.List.{flat_map}
+use Rattle.std.proofs.Common.{refl, sym, ap, ◌∙◌, append-nil, Bor}
+use Rattle.std.proofs.lemmas.Grind.{flat_map-append}
+use Rattle.lsm_store.specs.Parts.{layout}
 use Rattle.mvcc_key.specs.Refusal.{Refusal}
 use Rattle.mvcc_engine.specs.Read.{get}
 use Rattle.mvcc_engine.specs.Step as engine
@@ -16,13 +19,14 @@ use Rattle.script_run.specs.Output.{Carried, carried, carry_out, or_refused, per
 use Rattle.mvcc_engine.specs.Seen.{Tells}
 use Rattle.script_run.specs.Answered.{IsAnswered, is_blank}
 use Rattle.std.proofs.lemmas.Result.{on_ok_weaker}
+use Rattle.script_run.proofs.TextLaws.{two_pieces}
 
--- the text of one answer, and of the statistics behind it
-pub text_of-one : (c : Carried) (s : State) (a : text.Answer) → c ≡ record { state = s; answers = a ∷ [] } → text_of false c ≡ text.show a
-text_of-one c s a is = ap (text_of false) is ∙ append-nil (text.show a)
-
-pub text_of-two : (c : Carried) (s : State) (a : text.Answer) → c ≡ record { state = s; answers = a ∷ [] } → text_of true c ≡ text.show a ++ text.show (statistics_answer s)
-text_of-two c s a is = ap (text_of true) is ∙ ap (λ t. text.show a ++ t) (append-nil (text.show (statistics_answer s)))
+-- the text of answers, and of the statistics behind them where they are wanted
+text_of-answers : (wanted : Bool) (c : Carried) (s : State) (a : text.Answer) (more : List text.Answer) → c ≡ record { state = s; answers = a ∷ more }
+    → text_of wanted c ≡ flat_map text.show (a ∷ more) ++ cond wanted (text.show (statistics_answer s)) []
+text_of-answers true c s a more is =
+    ap (text_of true) is ∙ flat_map-append text.show (a ∷ more) (statistics_answer s ∷ []) ∙ ap (λ t. flat_map text.show (a ∷ more) ++ t) (append-nil (text.show (statistics_answer s)))
+text_of-answers false c s a more is = ap (text_of false) is ∙ flat_map-append text.show (a ∷ more) []
 
 -- a line without a reading
 pub carry_out-bad : (s : State) (n : ℕ) (line read : List ℕ) → read ≡ without_return line → parse read ≡ None
@@ -44,6 +48,9 @@ performed-blank s (grammar.Get key ts) blank = cc
 performed-blank s (grammar.Del key ts) blank = cc
 performed-blank s (grammar.Age now) blank = cc
 performed-blank s grammar.Stats blank = cc
+performed-blank s grammar.Flush blank = cc
+performed-blank s (grammar.Compact keep) blank = cc
+performed-blank s grammar.Layout blank = cc
 
 -- no refusal is none
 nothing : {P : Type 0} → IsSome {T = Refusal} None → P
@@ -57,10 +64,14 @@ module _ {T E : Type 0} (r : Result T E) (old new : List ℕ) (s s' : State) (sa
   unfolding performed
   performed-taken reply taken = ap (or_refused s) (is ∙ ap (carried shown) taken)
 
+  pub taken_all : (reply : Reply) (a : text.Answer) (more : List text.Answer) → answer ≡ Ok (record { state = s'; reply = reply }) → shown reply ≡ a ∷ more
+      → OnOk r (new ≡ old ++ flat_map text.show (a ∷ more)) → OnOk r (IsAnswered (performed s said) s' old new)
+  taken_all reply a more took are appended =
+      on_ok_weaker r (λ e. record { answer = a; more = more; carried = performed-taken reply took ∙ ap (λ l. record { state = s'; answers = l }) are; shown = e }) appended
+
   pub taken : (reply : Reply) (a : text.Answer) → answer ≡ Ok (record { state = s'; reply = reply }) → shown reply ≡ a ∷ [] → OnOk r (new ≡ old ++ text.show a)
       → OnOk r (IsAnswered (performed s said) s' old new)
-  taken reply a took one appended =
-      on_ok_weaker r (λ e. record { answer = a; carried = performed-taken reply took ∙ ap (λ l. record { state = s'; answers = l }) one; shown = e }) appended
+  taken reply a took one appended = taken_all reply a [] took one (on_ok_weaker r (λ e. e ∙ ap (λ t. old ++ t) (sym (append-nil (text.show a)))) appended)
 
   -- a step that is refused
   performed-refused : (why : Refusal) → answer ≡ Err why → performed s said ≡ record { state = s; answers = text.Refused (text.ByStore why) ∷ [] }
@@ -74,17 +85,18 @@ module _ {T E : Type 0} (r : Result T E) (old new : List ℕ) (s s' : State) (sa
       on_ok_weaker r
       (λ e. record {
         answer = text.Refused (text.ByStore why);
+        more = [];
         carried = performed-refused why denied ∙ ap (λ t. record { state = t; answers = text.Refused (text.ByStore why) ∷ [] }) (sym same);
-        shown = e;
+        shown = e ∙ ap (λ t. old ++ t) (sym (append-nil (text.show (text.Refused (text.ByStore why)))));
       })
       appended
 
--- the text of a line with one answer, and of the statistics behind it where they are wanted
-pub answered : (wanted : Bool) (c : Carried) (s : State) (a : text.Answer) (old mid new : List ℕ) → c ≡ record { state = s; answers = a ∷ [] } → mid ≡ old ++ text.show a
-    → new ≡ mid ++ cond wanted (text.show (statistics_answer s)) [] → new ≡ old ++ text_of wanted c
-answered true c s a old mid new is one two =
-    two ∙ ap (λ t. t ++ text.show (statistics_answer s)) one ∙ append_assoc old (text.show a) (text.show (statistics_answer s)) ∙ ap (λ t. old ++ t) (sym (text_of-two c s a is))
-answered false c s a old mid new is one two = two ∙ append-nil mid ∙ one ∙ ap (λ t. old ++ t) (sym (text_of-one c s a is))
+-- the text of a line with answers, and of the statistics behind them where they are wanted
+pub answered : (wanted : Bool) (c : Carried) (s : State) (a : text.Answer) (more : List text.Answer) (old mid new : List ℕ) → c ≡ record { state = s; answers = a ∷ more }
+    → mid ≡ old ++ flat_map text.show (a ∷ more) → new ≡ mid ++ cond wanted (text.show (statistics_answer s)) [] → new ≡ old ++ text_of wanted c
+answered wanted c s a more old mid new is first last =
+    let statistics : List ℕ = cond wanted (text.show (statistics_answer s)) [] in
+    two_pieces old mid new (flat_map text.show (a ∷ more)) statistics first last ∙ ap (λ t. old ++ t) (sym (text_of-answers wanted c s a more is))
 
 -- the text of a line without an answer
 pub unanswered : (wanted : Bool) (c : Carried) (s : State) (old : List ℕ) → c ≡ record { state = s; answers = [] } → old ≡ old ++ text_of wanted c
@@ -98,6 +110,11 @@ step-get s key ts = refl
 pub step-stats : (s : State) → step s engine.Stats ≡ Ok (record { state = s; reply = engine.Statistics (statistics s.last s.history) s.last })
 unfolding step
 step-stats s = refl
+
+-- so is a look at the layout
+pub step-layout : (s : State) → step s engine.Layout ≡ Ok (record { state = s; reply = engine.Parts (layout s.parts) })
+unfolding step
+step-layout s = refl
 
 -- a row that is lent
 pub lent : (o : Option (Bor Found)) → option_map (λ f. found_of f.now) o ≡ option_map found_of (option_copied o)

@@ -1,7 +1,8 @@
 -- Text that is appended piece by piece.
-use Rattle.std.specs.Prelude.{◌≡◌, ℕ, true, List, [], ◌∷◌, ◌++◌, Result, Ok, Err, OnOk, OnErr}
+use Rattle.std.specs.Prelude.{◌≡◌, ℕ, true, List, [], ◌∷◌, ◌++◌, length, take, Result, Ok, Err, OnOk, OnErr}
 use Rattle.std.specs.List.{list_all}
 use Rattle.std.proofs.lemmas.Bool.{and_parts}
+use Rattle.std.proofs.Math.Seq.{take-append_seam}
 use Rattle.script_run.specs.Text.{escaped, escaped_byte, is_unescaped}
 use Rattle.std.proofs.Common.{refl, sym, ap, ◌∙◌, append-nil, append_assoc}
 use Rattle.script_run.specs.Promise.{Extends}
@@ -27,6 +28,10 @@ two_pieces old mid new first second one two = two ∙ ap (λ l. l ++ second) one
 pub on_ok : {T E : Type 0} {P : Type 0} (r : Result T E) → P → OnOk r P
 on_ok (Ok x) p = p
 on_ok (Err e) p = tt
+
+-- what was there before is cut back to
+pub cut_back : (old new more : List ℕ) (n : ℕ) → n ≡ length old → new ≡ old ++ more → take n new ≡ old
+cut_back old new more n is grown = rw (is, grown) (take-append_seam old more)
 
 -- what is printed as it is
 pub unescaped_text : (bytes : List ℕ) → list_all is_unescaped bytes ≡ true → escaped bytes ≡ bytes

@@ -1,7 +1,8 @@
 -- A command that is carried out and answered.
-use Rattle.std.specs.Prelude.{◌≡◌, ℕ, Bool, true, false, List, [], ◌∷◌, ◌++◌}
+use Rattle.std.specs.Prelude.{◌≡◌, ℕ, Bool, true, false, List, ◌∷◌, ◌++◌}
+use Rattle.std.specs.List.{flat_map}
 use Rattle.mvcc_engine.specs.Step.{State}
-use Rattle.script_run.specs.Grammar.{Line, Blank, Put, Get, Del, Age, Stats}
+use Rattle.script_run.specs.Grammar.{Line, Blank, Put, Get, Del, Age, Stats, Flush, Compact, Layout}
 use Rattle.script_run.specs.Text.{Answer, show}
 use Rattle.script_run.specs.Output.{Carried}
 
@@ -13,9 +14,13 @@ is_blank (Get key ts) = false
 is_blank (Del key ts) = false
 is_blank (Age now) = false
 is_blank Stats = false
+is_blank Flush = false
+is_blank (Compact keep) = false
+is_blank Layout = false
 
--- it has one answer, whose text was appended
+-- it has answers, whose text was appended
 pub record IsAnswered (c : Carried) (s : State) (old new : List ℕ) : Type 0 where
   pub answer : Answer
-  pub carried : c ≡ record { state = s; answers = answer ∷ [] }
-  pub shown : new ≡ old ++ show answer
+  pub more : List Answer
+  pub carried : c ≡ record { state = s; answers = answer ∷ more }
+  pub shown : new ≡ old ++ flat_map show (answer ∷ more)

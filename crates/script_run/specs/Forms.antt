@@ -1,5 +1,5 @@
--- The forms in which a line writes keys, values and times.
-use Rattle.std.specs.Prelude.{ℕ, ◌+◌, ◌-◌, ◌*◌, Bool, ◌&&◌, not, List, [], ◌∷◌, ◌++◌, length, fold, replicate, Option, Some, None, option_map, nat_le, ◌==◌, if◌then◌else◌}
+-- The forms in which a line writes keys, values, times and numbers.
+use Rattle.std.specs.Prelude.{ℕ, ◌+◌, ◌-◌, ◌*◌, ◌^◌, Bool, ◌&&◌, not, List, [], ◌∷◌, ◌++◌, length, fold, replicate, Option, Some, None, option_map, nat_le, ◌==◌, if◌then◌else◌}
 use Rattle.std.specs.List.{list_all}
 use Rattle.std.specs.Char.{is_digit, digit_value}
 use Rattle.mvcc_key.specs.Order.{Timestamp, max_wall, max_logical}
@@ -86,6 +86,16 @@ is_number digits = nat_le 1 (length digits) && list_all is_decimal digits
 -- the number, where it is at most the limit
 unfoldable pub number_up_to : ℕ → List ℕ → Option ℕ
 number_up_to limit digits = if is_number digits && nat_le (digits_value digits) limit then Some (digits_value digits) else None
+
+-- the greatest NUM
+abbrev pub max_number : ℕ
+max_number = 2 ^ 63 - 1
+
+-- NUM: 1 to 19 digits, below 2^63; and at least so much
+unfoldable pub number_from : ℕ → List ℕ → Option ℕ
+number_from least bytes = do
+  n ← number_up_to max_number bytes
+  where_it (nat_le (length bytes) 19 && nat_le least n) n
 
 -- 1 to 9 digits behind a point, as nanoseconds
 unfoldable pub nanos : List ℕ → Option ℕ

@@ -2,7 +2,7 @@
 use Rattle.std.specs.Prelude.{ℕ, Bool, false, List, [], ◌∷◌, map, Option, Some, None, codes, bytes_eq, ◌==◌, if◌then◌else◌}
 use Rattle.mvcc_key.specs.Order.{Timestamp, Key}
 use Rattle.mvcc_key.specs.History.{Body, Bytes}
-use Rattle.script_run.specs.Forms.{◌>>=◌, text, wall, time}
+use Rattle.script_run.specs.Forms.{◌>>=◌, text, wall, time, number_from}
 use Rattle.script_run.specs.Words.{Word, words, word_of, only, required}
 
 -- what a line says
@@ -13,6 +13,9 @@ pub data Line : Type 0 where
   Del : (key : Key) (ts : Timestamp) → Line
   Age : (now : ℕ) → Line
   Stats : Line
+  Flush : Line
+  Compact : (keep : ℕ) → Line
+  Layout : Line
 
 -- k=TEXT
 abbrev pub key : List Word → Option Key
@@ -30,8 +33,12 @@ value = required (codes "v") text
 abbrev pub now : List Word → Option ℕ
 now = required (codes "now") wall
 
+-- keep=NUM, at least 1
+abbrev pub keep : List Word → Option ℕ
+keep = required (codes "keep") (number_from 1)
+
 -- a command without words
-abbrev pub alone : Line → List Word → Option Line
+unfoldable pub alone : Line → List Word → Option Line
 alone line given = do
   ws ← only [] [] given
   Some line
@@ -68,9 +75,12 @@ age given = do
   n ← now ws
   Some (Age n)
 
--- no words
-unfoldable pub stats : List Word → Option Line
-stats = alone Stats
+-- keep=NUM
+unfoldable pub compact : List Word → Option Line
+compact given = do
+  ws ← only (codes "keep" ∷ []) [] given
+  n ← keep ws
+  Some (Compact n)
 
 -- the command of this name, with these words
 unfoldable pub command : List ℕ → List Word → Option Line
@@ -79,7 +89,10 @@ command name ws =
     else if bytes_eq name (codes "get") then get ws
     else if bytes_eq name (codes "del") then del ws
     else if bytes_eq name (codes "age") then age ws
-    else if bytes_eq name (codes "stats") then stats ws
+    else if bytes_eq name (codes "stats") then alone Stats ws
+    else if bytes_eq name (codes "flush") then alone Flush ws
+    else if bytes_eq name (codes "compact") then compact ws
+    else if bytes_eq name (codes "layout") then alone Layout ws
     else None
 
 -- the first word begins with a number sign

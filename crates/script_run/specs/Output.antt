@@ -5,7 +5,8 @@ use Rattle.mvcc_key.specs.Lists.{is_empty}
 use Rattle.mvcc_key.specs.Cutting.{pieces}
 use Rattle.mvcc_key.specs.Order.{Key}
 use Rattle.mvcc_key.specs.Refusal.{Refusal}
-use Rattle.mvcc_engine.specs.Step.{State, first_state, statistics, Command, Reply, Finished, WasThere, Got, Statistics, Stepped, step}
+use Rattle.lsm_store.specs.Parts.{PartShape}
+use Rattle.mvcc_engine.specs.Step.{State, first_state, statistics, Command, Reply, Finished, WasThere, Got, Statistics, Parts, Stepped, step}
 use Rattle.script_run.specs.Grammar.{Line, parse}
 use Rattle.script_run.specs.Text.{Reason, BadLine, ByStore, Answer, show}
 use Rattle.script_run.specs.CommandLine.{Options, Invocation, Run, invocation}
@@ -35,6 +36,16 @@ abbrev pub got : Key → Reply → List Answer
 got key (Got found) = Answer.Got key found ∷ []
 got key reply = []
 
+-- one line for each part, counted from the index
+abbrev pub layout_answers : ℕ → List PartShape → List Answer
+layout_answers index [] = []
+layout_answers index (p ∷ ps) = Answer.LayoutLine index p.keys p.clears p.ranges ∷ layout_answers (index + 1) ps
+
+-- how the layout is shown
+abbrev pub laid_out : Reply → List Answer
+laid_out (Parts shapes) = layout_answers 0 shapes
+laid_out reply = []
+
 -- a command that is carried out: the state after it and how its reply is shown, or why it is refused
 abbrev pub carried : (Reply → List Answer) → Result Stepped Refusal → Result Carried Reason
 carried shown (Ok done) = Ok (record { state = done.state; answers = shown done.reply })
@@ -48,6 +59,9 @@ perform s (Line.Get key ts) = carried (got key) (step s (Command.Get key ts))
 perform s (Line.Del key ts) = carried deleted (step s (Command.Delete key ts))
 perform s (Line.Age now) = carried finished (step s (Command.Age now))
 perform s Line.Stats = carried statistics_shown (step s Command.Stats)
+perform s Line.Flush = carried finished (step s Command.Flush)
+perform s (Line.Compact keep) = carried finished (step s (Command.Compact keep))
+perform s Line.Layout = carried laid_out (step s Command.Layout)
 
 -- a line without a reading is refused
 abbrev pub perform_read : State → ℕ → Option Line → Result Carried Reason

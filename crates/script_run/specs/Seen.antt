@@ -32,6 +32,7 @@ answer_of answer.Accepted = text.Accepted
 answer_of (answer.Deleted found) = text.Deleted found
 answer_of (answer.Got key found) = text.Got key.now (option_map (λ f. found_of f.now) found)
 answer_of (answer.Statistics stats) = text.Statistics stats.now.sums stats.now.last
+answer_of (answer.LayoutLine index shape) = text.LayoutLine index shape.keys shape.clears shape.ranges
 answer_of (answer.Refused why) = text.Refused (reason_of why)
 
 -- where memory is wanting a beginning of the text is written or gathered, and where a write fails one is written

@@ -36,3 +36,6 @@ line_of (line.Get key ts) = grammar.Get (cow_slice_items key) (time_of ts)
 line_of (line.Del key ts) = grammar.Del (cow_slice_items key) (time_of ts)
 line_of (line.Age now) = grammar.Age now.nanos
 line_of line.Stats = grammar.Stats
+line_of line.Flush = grammar.Flush
+line_of (line.Compact keep) = grammar.Compact keep.runs
+line_of line.Layout = grammar.Layout

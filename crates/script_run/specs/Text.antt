@@ -1,5 +1,5 @@
 -- The texts of answers and refusals.
-use Rattle.std.specs.Prelude.{ℕ, ◌/◌, ◌+◌, ◌%◌, Bool, true, false, ◌&&◌, not, List, [], ◌∷◌, ◌++◌, Option, Some, None, nat_le, ◌==◌, codes, if◌then◌else◌}
+use Rattle.std.specs.Prelude.{ℕ, zero, suc, ◌/◌, ◌+◌, ◌%◌, Bool, true, false, ◌&&◌, not, List, [], ◌∷◌, ◌++◌, Option, Some, None, nat_le, ◌==◌, codes, if◌then◌else◌}
 use Rattle.std.specs.List.{flat_map}
 use Rattle.std.specs.Char.{digit_char}
 use Rattle.std.specs.Fmt.{decimal, signed_decimal}
@@ -22,6 +22,7 @@ pub data Answer : Type 0 where
   Got : (key : Key) (found : Option Found) → Answer
   Deleted : (found : Bool) → Answer
   Statistics : (sums : Sums) (now : ℕ) → Answer
+  LayoutLine : (index keys clears : ℕ) (ranges : Bool) → Answer
   Refused : (why : Reason) → Answer
 
 -- a byte by \x and two lower-case hexadecimal digits
@@ -90,10 +91,27 @@ abbrev pub truth : Bool → List ℕ
 truth true = codes "true"
 truth false = codes "false"
 
+-- yes or no
+unfoldable pub yes_or_no : Bool → List ℕ
+yes_or_no true = codes "yes"
+yes_or_no false = codes "no"
+
+-- the first part is the memory table, and each other one a run
+unfoldable pub part_name : ℕ → List ℕ
+part_name zero = codes ": mem"
+part_name (suc n) = codes ": run"
+
+-- a part by its place: its names, the cleared ones, and whether it holds range operations
+unfoldable pub layout_line : ℕ → ℕ → ℕ → Bool → List ℕ
+layout_line index keys clears ranges =
+    codes "part " ++ decimal index ++ part_name index ++ codes " keys=" ++ decimal keys ++ codes " clears=" ++ decimal clears
+    ++ codes " ranges=" ++ yes_or_no ranges ++ codes "\n"
+
 -- the text of an answer: whole lines
 unfoldable pub show : Answer → List ℕ
 show Accepted = codes "ok\n"
 show (Got key found) = get_line key found
 show (Deleted found) = codes "del: found=" ++ truth found ++ codes "\n"
 show (Statistics sums now) = statistics_line sums now
+show (LayoutLine index keys clears ranges) = layout_line index keys clears ranges
 show (Refused why) = codes "error: " ++ reason why ++ codes "\n"

@@ -1,11 +1,11 @@
-//! The forms in which a line writes keys, values and times.
+//! The forms in which a line writes keys, values, times and numbers.
 ghost use Rattle.std.specs.Prelude.{◌≡◌, ◌<◌, ◌≤◌, ◌==◌, ◌^◌, IfOk, IfSome, length, position};
 ghost use Rattle.std.specs.List.{list_all};
 ghost use Rattle.std.specs.Option.{option_map};
 ghost use Rattle.std.specs.Cow.{cow_slice_items};
 ghost use Rattle.mvcc_key.specs.Cutting.{cut_at};
 ghost use Rattle.mvcc_key.specs.Seen.{time_of};
-ghost use Rattle.script_run.specs.Forms.{counter, fraction, is_plain, nanos, number_up_to, text, time, wall};
+ghost use Rattle.script_run.specs.Forms.{counter, fraction, is_plain, nanos, number_from, number_up_to, text, time, wall};
 
 use crate::unescape::{is_plain, unescape};
 use mvcc_key::{OutOfMemory, Timestamp};
@@ -14,6 +14,12 @@ use std::borrow::CowSlice;
 
 /// The last second that a wall time holds whole.
 const MAX_SECONDS: u64 = 9_223_372_036;
+
+/// The greatest number that a NUM writes.
+const MAX_NUMBER: u64 = (1 << 63) - 1;
+
+/// The most digits that a NUM has.
+const MAX_DIGITS: usize = 19;
 
 /// The greatest logical counter.
 const MAX_LOGICAL: u64 = (1 << 31) - 1;
@@ -136,6 +142,34 @@ pub fn number(digits: &[u8], limit: u64) -> Option<u64>
         number = next as u64;
     }
     Some(number)
+}
+
+/// How many runs may be left: at least one.
+#[derive(Clone, Copy, Debug)]
+pub struct RunCount {
+    pub runs: u64,
+    ghost some: { 1 ≤ runs },
+}
+
+/// The number of runs that a NUM says, where it is at least 1.
+pub fn run_count(bytes: &[u8]) -> Option<RunCount>
+    ensures { option_map (λ count. count.runs) result ≡ number_from 1 bytes.now }
+{
+    let runs = number_from(bytes, 1)?;
+    Some(RunCount { runs })
+}
+
+/// What a NUM says, where it is one and at least so much: 1 to 19 digits, below 2^63.
+#[tactic(auto, unfolding(crate::specs::Forms::number_from))]
+fn number_from(digits: &[u8], least: u64) -> Option<u64>
+    ensures value { result ≡ number_from least digits.now }
+    ensures enough { IfSome result (λ n. least ≤ n) }
+{
+    let value = number(digits, MAX_NUMBER)?;
+    if digits.len() > MAX_DIGITS || value < least {
+        return None;
+    }
+    Some(value)
 }
 
 /// What stands before the first such byte, and what stands behind it, where there is one.

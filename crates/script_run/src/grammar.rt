@@ -5,11 +5,11 @@ ghost use Rattle.std.specs.Cow.{cow_slice_items};
 ghost use Rattle.mvcc_key.specs.Seen as key;
 ghost use Rattle.script_run.specs.Forms as forms;
 ghost use Rattle.script_run.specs.Words.{required};
-ghost use Rattle.script_run.specs.Grammar.{age, begins_comment, command, del, get, parse, put, stats};
+ghost use Rattle.script_run.specs.Grammar.{age, alone, begins_comment, command, compact, del, get, parse, put};
 ghost use Rattle.script_run.specs.Answered.{is_blank};
 ghost use Rattle.script_run.specs.SeenLine.{line_of, word_of};
 
-use crate::forms::{self, WallTime};
+use crate::forms::{self, RunCount, WallTime};
 use crate::words::{Word, are_only, next_word, read_words, value_of};
 use mvcc_key::{OutOfMemory, Timestamp};
 use std::alloc::Global;
@@ -37,6 +37,12 @@ pub enum Line<'a> {
         now: WallTime,
     },
     Stats,
+    Flush,
+    Compact {
+        /// At most so many runs are left.
+        keep: RunCount,
+    },
+    Layout,
 }
 
 impl Line<'_> {
@@ -92,7 +98,13 @@ fn command<'a>(
     } else if name == b"age".as_slice() {
         Ok(age(words))
     } else if name == b"stats".as_slice() {
-        Ok(stats(words))
+        Ok(alone(Line::Stats, words))
+    } else if name == b"flush".as_slice() {
+        Ok(alone(Line::Flush, words))
+    } else if name == b"compact".as_slice() {
+        Ok(compact(words))
+    } else if name == b"layout".as_slice() {
+        Ok(alone(Line::Layout, words))
     } else {
         Ok(None)
     }
@@ -164,13 +176,25 @@ fn age<'a>(words: &[Word<'_>]) -> Option<Line<'a>>
     Some(Line::Age { now })
 }
 
-/// No words.
-#[tactic(auto, unfolding(crate::specs::Grammar::stats))]
-fn stats<'a>(words: &[Word<'_>]) -> Option<Line<'a>>
-    ensures { option_map line_of result ≡ stats (map word_of words.now) }
+/// `keep=NUM`
+#[tactic(auto, unfolding(crate::specs::Grammar::compact))]
+fn compact<'a>(words: &[Word<'_>]) -> Option<Line<'a>>
+    ensures { option_map line_of result ≡ compact (map word_of words.now) }
+{
+    if !are_only(words, &["keep"], &[]) {
+        return None;
+    }
+    let keep = run_count(words, "keep")?;
+    Some(Line::Compact { keep })
+}
+
+/// A command without words.
+#[tactic(auto, unfolding(crate::specs::Grammar::alone))]
+fn alone<'a>(line: Line<'a>, words: &[Word<'_>]) -> Option<Line<'a>>
+    ensures { option_map line_of result ≡ alone (line_of line.entry) (map word_of words.now) }
 {
     if are_only(words, &[], &[]) {
-        Some(Line::Stats)
+        Some(line)
     } else {
         None
     }
@@ -202,4 +226,11 @@ fn moment(words: &[Word<'_>], name: &str) -> Option<WallTime>
     ensures { option_map (λ m. m.nanos) result ≡ required name.now forms.wall (map word_of words.now) }
 {
     forms::moment(value_of(words, name)?)
+}
+
+/// The number of runs that the word of this name says.
+fn run_count(words: &[Word<'_>], name: &str) -> Option<RunCount>
+    ensures { option_map (λ count. count.runs) result ≡ required name.now (forms.number_from 1) (map word_of words.now) }
+{
+    forms::run_count(value_of(words, name)?)
 }

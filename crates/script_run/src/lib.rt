@@ -6,6 +6,7 @@ mod command_line;
 mod forms;
 mod grammar;
 mod hex;
+mod layout;
 mod pieces;
 mod program;
 mod script;

@@ -1,11 +1,13 @@
 //! What a script has made so far, and what one line does to it.
-ghost use Rattle.std.specs.Prelude.{◌≡◌, ◌++◌, ◌<◌, ◌^◌, OnOk, OnErr, IfSome, IsSome, cond, false, []};
+ghost use Rattle.std.specs.Prelude.{◌≡◌, ◌++◌, ◌<◌, ◌≤◌, ◌^◌, OnOk, OnErr, IfSome, IsSome, cond, false, [], map};
+ghost use Rattle.std.specs.List.{flat_map};
+ghost use Rattle.lsm_store.specs.Seen.{seen_shape};
 ghost use Rattle.mvcc_key.specs.History.{Bytes};
 ghost use Rattle.mvcc_key.specs.Seen.{time_of};
 ghost use Rattle.mvcc_engine.specs.Seen.{fault_of, refusal_of};
 ghost use Rattle.mvcc_engine.specs.Step.{first_state};
-ghost use Rattle.script_run.specs.Grammar.{Age, Del, Get, Put};
-ghost use Rattle.script_run.specs.Output.{carry_out, performed, statistics_answer, text_of};
+ghost use Rattle.script_run.specs.Grammar.{Age, Compact, Del, Flush, Get, Layout, Put};
+ghost use Rattle.script_run.specs.Output.{carry_out, layout_answers, performed, statistics_answer, text_of};
 ghost use Rattle.script_run.specs.Answered.{IsAnswered, is_blank};
 ghost use Rattle.script_run.specs.Promise.{Extends};
 ghost use Rattle.script_run.specs.Text.{ByStore, Refused, show};
@@ -16,13 +18,13 @@ use crate::command_line::Options;
 use crate::grammar::{Line, parse};
 use crate::script::without_return;
 use crate::text::{Answer, Reason, show};
-use mvcc_engine::{AgeFault, Engine, Refusal};
+use mvcc_engine::{AgeFault, Engine, PartShape, Refusal};
 use mvcc_key::{OutOfMemory, Timestamp};
 use mvcc_value::PlainValue;
 use std::alloc::Global;
 use std::marker::Model;
 
-/// The state of a run. Contracts see it as the state of the definitions.
+/// The state of a run. Contracts see it as the state of the definitions, which always has a part, the memory table.
 #[derive(Drop)]
 pub struct Session {
     alloc: Global,
@@ -31,10 +33,13 @@ pub struct Session {
 
 impl Model for Session {
     ghost use Rattle.mvcc_engine.specs.Step.{State};
+    ghost use Rattle.std.specs.Prelude.{◌≤◌, length};
 
     ghost Value = { State };
 
     ghost view = { λ s. s.engine };
+
+    ghost invariant = { λ s. 1 ≤ length s.engine.parts };
 }
 
 impl Session {
@@ -105,7 +110,7 @@ impl Session {
         Ok(())
     }
 
-    /// Does what a command says, and appends the text of its answer. Where memory is wanting the text stays as it was.
+    /// Does what a command says, and appends the text of its answers. Where memory is wanting the text stays as it was.
     fn perform(&mut self, line: &Line<'_>, text: &mut Vec<u8>) -> Result<(), OutOfMemory>
         requires { is_blank (line_of line.now) ≡ false }
         ensures ok { OnOk result (IsAnswered (performed self.old (line_of line.now)) self.new text.old.items text.new.items) }
@@ -118,6 +123,9 @@ impl Session {
             Line::Del { key, ts } => self.delete(key.as_slice(), *ts, text),
             Line::Age { now } => self.age(now.nanos, text),
             Line::Stats => show(Answer::Statistics(&self.engine.stats()), text),
+            Line::Flush => self.flush(text),
+            Line::Compact { keep } => self.compact(keep.runs, text),
+            Line::Layout => self.layout(text),
         }
     }
 
@@ -166,6 +174,50 @@ impl Session {
         }
         show(Answer::Accepted, text)
     }
+
+    fn flush(&mut self, text: &mut Vec<u8>) -> Result<(), OutOfMemory>
+        ensures ok { OnOk result (IsAnswered (performed self.old Flush) self.new text.old.items text.new.items) }
+        ensures err { OnErr result (text.new.items ≡ text.old.items) }
+    {
+        self.engine.flush()?;
+        show(Answer::Accepted, text)
+    }
+
+    fn compact(&mut self, keep: u64, text: &mut Vec<u8>) -> Result<(), OutOfMemory>
+        requires { 1 ≤ keep }
+        ensures ok { OnOk result (IsAnswered (performed self.old (Compact keep)) self.new text.old.items text.new.items) }
+        ensures err { OnErr result (text.new.items ≡ text.old.items) }
+    {
+        self.engine.compact(keep)?;
+        show(Answer::Accepted, text)
+    }
+
+    fn layout(&self, text: &mut Vec<u8>) -> Result<(), OutOfMemory>
+        ensures ok { OnOk result (IsAnswered (performed self.now Layout) self.now text.old.items text.new.items) }
+        ensures err { OnErr result (text.new.items ≡ text.old.items) }
+    {
+        let shapes = self.engine.layout()?;
+        show_layout(&shapes, text)
+    }
+}
+
+/// Appends a line for each part, the memory table first. Where memory is wanting the text stays as it was.
+fn show_layout(shapes: &[PartShape], text: &mut Vec<u8>) -> Result<(), OutOfMemory>
+    ensures ok { OnOk result (text.new.items ≡ text.old.items ++ flat_map show (layout_answers 0 (map seen_shape shapes.now))) }
+    ensures err { OnErr result (text.new.items ≡ text.old.items) }
+{
+    let start = text.len();
+    for (index, shape) in shapes.iter().enumerate() {
+        let line = Answer::LayoutLine {
+            index: index as u64,
+            shape: *shape,
+        };
+        if let Err(wanting) = show(line, text) {
+            text.truncate(start);
+            return Err(wanting);
+        }
+    }
+    Ok(())
 }
 
 /// The reason that a fault of ageing tells.

@@ -40,7 +40,7 @@ fn padded(alloc: Global, script: &[u8], byte: u8, size: usize) -> Result<Vec<u8>
 
 #[test]
 fn scripts_get_their_answers(rt: HostRuntime) -> Result<(), Fail> {
-    let cases: [(&[u8], &[u8]); 12] = [
+    let cases: [(&[u8], &[u8]); 14] = [
         (b"", b""),
         (
             PUT_AND_GET,
@@ -82,6 +82,14 @@ fn scripts_get_their_answers(rt: HostRuntime) -> Result<(), Fail> {
         (
             b"put k= ts=0 v=x\nput k=a ts=0 v=x\nput k=a ts=0,1 v=\nget k=a ts=1",
             b"error: EmptyKey\nerror: BadTimestamp\nok\nget: \"a\" -> /BYTES/ @0.000000000,1\n",
+        ),
+        (
+            b"put k=a ts=1 v=abc\nflush\nflush\nput k=a ts=2 v=x\ndel k=b ts=1\nlayout\nflush\ncompact keep=2\nlayout\ncompact keep=1\nlayout\n",
+            b"ok\nok\nok\nok\ndel: found=false\npart 0: mem keys=2 clears=0 ranges=no\npart 1: run keys=1 clears=0 ranges=no\nok\nok\npart 0: mem keys=0 clears=0 ranges=no\npart 1: run keys=2 clears=0 ranges=no\npart 2: run keys=1 clears=0 ranges=no\nok\npart 0: mem keys=0 clears=0 ranges=no\npart 1: run keys=3 clears=0 ranges=no\n",
+        ),
+        (
+            b"compact keep=0\ncompact\nflush x\nlayout keep=1\ncompact keep=1 keep=1\ncompact keep\ncompact keep=9223372036854775808\ncompact keep=00000000000000000001\nlayout\tx\ncompact keep=9223372036854775807\n",
+            b"error: BadLine line=1\nerror: BadLine line=2\nerror: BadLine line=3\nerror: BadLine line=4\nerror: BadLine line=5\nerror: BadLine line=6\nerror: BadLine line=7\nerror: BadLine line=8\nerror: BadLine line=9\nok\n",
         ),
     ];
     let words = words(rt.alloc(), "run")?;
@@ -186,7 +194,7 @@ fn ends_that_never_fail_are_done(rt: HostRuntime) -> Result<(), Fail> {
 
 #[test]
 fn statistics_are_a_recount(rt: HostRuntime) -> Result<(), Fail> {
-    let cases: [(&str, &[u8], &[u8]); 6] = [
+    let cases: [(&str, &[u8], &[u8]); 7] = [
         (
             "run",
             b"put k=a ts=1 v=abc\nget k=a ts=1\nstats",
@@ -211,6 +219,11 @@ fn statistics_are_a_recount(rt: HostRuntime) -> Result<(), Fail> {
             "run --stats --count-max=100",
             b"put k=a ts=1 v=abc\ndel k=a ts=3\n# none\nage now=5\nage now=6\nage now=4",
             b"ok\nstats: key_count=1 key_bytes=14 val_count=1 val_bytes=8 live_count=1 live_bytes=22 intent_count=0 intent_bytes=0 intent_age=0 gc_bytes_age=0 range_key_count=0 range_key_bytes=0 range_val_count=0 range_val_bytes=0 last_update_nanos=1000000000\ndel: found=true\nstats: key_count=1 key_bytes=26 val_count=2 val_bytes=8 live_count=0 live_bytes=0 intent_count=0 intent_bytes=0 intent_age=0 gc_bytes_age=0 range_key_count=0 range_key_bytes=0 range_val_count=0 range_val_bytes=0 last_update_nanos=3000000000\nok\nstats: key_count=1 key_bytes=26 val_count=2 val_bytes=8 live_count=0 live_bytes=0 intent_count=0 intent_bytes=0 intent_age=0 gc_bytes_age=68 range_key_count=0 range_key_bytes=0 range_val_count=0 range_val_bytes=0 last_update_nanos=5000000000\nerror: CountOverflow field=gc_bytes_age\nstats: key_count=1 key_bytes=26 val_count=2 val_bytes=8 live_count=0 live_bytes=0 intent_count=0 intent_bytes=0 intent_age=0 gc_bytes_age=68 range_key_count=0 range_key_bytes=0 range_val_count=0 range_val_bytes=0 last_update_nanos=5000000000\nerror: MomentTooEarly latest=5000000000\nstats: key_count=1 key_bytes=26 val_count=2 val_bytes=8 live_count=0 live_bytes=0 intent_count=0 intent_bytes=0 intent_age=0 gc_bytes_age=68 range_key_count=0 range_key_bytes=0 range_val_count=0 range_val_bytes=0 last_update_nanos=5000000000\n",
+        ),
+        (
+            "run --stats",
+            b"put k=a ts=1 v=abc\nflush\nlayout\n",
+            b"ok\nstats: key_count=1 key_bytes=14 val_count=1 val_bytes=8 live_count=1 live_bytes=22 intent_count=0 intent_bytes=0 intent_age=0 gc_bytes_age=0 range_key_count=0 range_key_bytes=0 range_val_count=0 range_val_bytes=0 last_update_nanos=1000000000\nok\nstats: key_count=1 key_bytes=14 val_count=1 val_bytes=8 live_count=1 live_bytes=22 intent_count=0 intent_bytes=0 intent_age=0 gc_bytes_age=0 range_key_count=0 range_key_bytes=0 range_val_count=0 range_val_bytes=0 last_update_nanos=1000000000\npart 0: mem keys=0 clears=0 ranges=no\npart 1: run keys=1 clears=0 ranges=no\nstats: key_count=1 key_bytes=14 val_count=1 val_bytes=8 live_count=1 live_bytes=22 intent_count=0 intent_bytes=0 intent_age=0 gc_bytes_age=0 range_key_count=0 range_key_bytes=0 range_val_count=0 range_val_bytes=0 last_update_nanos=1000000000\n",
         ),
         (
             "run --count-max 13 --stats",

@@ -11,10 +11,12 @@ ghost use Rattle.stat_core.specs.Names.{field_name};
 ghost use Rattle.stat_core.specs.Seen.{field_of};
 ghost use Rattle.script_run.specs.Promise.{Extends};
 
+use crate::layout::append_layout_line;
 use crate::pieces::{
     append, append_escaped, append_nine_digits, append_number, append_numbered, append_signed,
 };
 use crate::statistics::append_statistics;
+use mvcc_engine::PartShape;
 use mvcc_key::{OutOfMemory, Timestamp};
 use mvcc_value::{Found, OwnedValue};
 use stat_core::{Field, Stats};
@@ -52,6 +54,11 @@ pub enum Answer<'a> {
         found: bool,
     },
     Statistics(&'a Stats),
+    LayoutLine {
+        /// The place of the part, from 0 for the memory table.
+        index: u64,
+        shape: PartShape,
+    },
     Refused(Reason),
 }
 
@@ -90,6 +97,7 @@ fn append_answer(answer: Answer<'_>, into: &mut Vec<u8>) -> Result<(), OutOfMemo
         Answer::Deleted { found: true } => append(b"del: found=true\n", into),
         Answer::Deleted { found: false } => append(b"del: found=false\n", into),
         Answer::Statistics(stats) => append_statistics(stats, into),
+        Answer::LayoutLine { index, shape } => append_layout_line(index, shape, into),
         Answer::Refused(why) => {
             append(b"error: ", into)?;
             append_reason(why, into)?;

@@ -6,5 +6,5 @@ use Rattle.mvcc_engine.proofs.engine.Engine.write.Goals as goal
 
 pub invariant_of-self-2 : goal.invariant_of-self-2
 invariant_of-self-2 c =
-    counted-planned c.self.inside.versions c.insert.new.self c.self.inside.stats c.args.self.now c.args.key.now (time_of c.args.ts) (seen_body c.args.body) c.in_ok-planned.planned c.self.view_is c.self.invariant
-    c.in_ok-planned.ensures c.in_ok-insert.ensures.ok
+    counted-planned c.self.inside.versions c.put.new.self.versions c.self.inside.stats c.args.self.now c.args.key.now (time_of c.args.ts) (seen_body c.args.body) c.in_ok-planned.planned c.self.view_is c.self.invariant
+    c.in_ok-planned.ensures c.in_ok-put.ensures.versions

@@ -1,6 +1,14 @@
--- No versions are in order.
-use Rattle.mvcc_engine.proofs.VersionLaws.{AreVersions-nil}
+-- An empty store holds no versions.
+use Rattle.std.proofs.Common.{ap}
+use Rattle.merge_cursor.specs.Merged.{merged}
+use Rattle.lsm_store.specs.Shown.{shown, parts_of}
+use Rattle.mvcc_engine.specs.Stored.{held_in}
 use Rattle.mvcc_engine.proofs.versions.Versions.new.Goals as goal
 
 pub invariant_of-result : goal.invariant_of-result
-invariant_of-result c = rw c.new.ensures.items AreVersions-nil
+unfolding shown merged
+invariant_of-result c = rw c.new.ensures tt
+
+pub returns : goal.returns
+unfolding shown merged parts_of
+returns c = ap held_in c.new.ensures

@@ -8,6 +8,7 @@ use Rattle.script_run.specs.Grammar.{Age}
 use Rattle.script_run.specs.Output.{finished}
 use Rattle.script_run.specs.Text.{Accepted, Refused, show}
 use Rattle.script_run.proofs.TextLaws.{on_ok}
+use Rattle.script_run.proofs.PartLaws.{answers_age-part}
 use Rattle.script_run.proofs.StepLaws.{taken, refused}
 use Rattle.script_run.proofs.session.Session.age.Goals as goal
 
@@ -24,3 +25,6 @@ returns-clause-ok c =
     taken c.show-2.result c.args.text.now.items c.show-2.new.into.items c.args.self.now c.age.new.self (Age c.args.now) finished
     (step c.args.self.now (engine.Age c.args.now)) refl Finished Accepted
     (subst (λ t. step t (engine.Age c.args.now) ≡ Ok (record { state = c.age.new.self; reply = Finished })) c.self.view_is c.in_default.ensures) refl c.show-2.ensures.ok
+
+pub invariant_of-self-2 : goal.invariant_of-self-2
+invariant_of-self-2 c = answers_age-part c.self.inside.engine c.age.new.self _ c.self.invariant c.age.result c.age.ensures

@@ -1,8 +1,8 @@
 -- A line is carried out as the definitions say.
-use Rattle.std.proofs.Common.{◌≡◌, [], ◌∷◌, sym, ap, ◌∙◌}
+use Rattle.std.proofs.Common.{◌≡◌, [], ◌∷◌, ◌++◌, sym, ap, ◌∙◌, append-nil}
 use Rattle.std.specs.Option.{option_map}
 use Rattle.std.proofs.lemmas.Result.{on_ok_weaker}
-use Rattle.script_run.specs.Text.{Refused, BadLine}
+use Rattle.script_run.specs.Text.{Refused, BadLine, show}
 use Rattle.script_run.specs.Output.{carry_out, performed}
 use Rattle.script_run.specs.SeenLine.{line_of}
 use Rattle.script_run.proofs.TextLaws.{on_ok}
@@ -18,8 +18,8 @@ returns-in_default-clause-state c = on_ok c.show_statistics.result (ap (λ k. k.
 pub returns-in_default-clause-answer : goal.returns-in_default-clause-answer
 returns-in_default-clause-answer c =
     on_ok_weaker c.show_statistics.result
-    (λ e. answered c.args.options.stats (carry_out c.args.self.now c.args.number c.args.line.now) c.args.self.now (Refused (BadLine c.args.number)) c.args.text.now.items c.show.new.into.items
-    c.show_statistics.new.text.items (bad c) c.in_ok-show.ensures.ok e)
+    (λ e. answered c.args.options.stats (carry_out c.args.self.now c.args.number c.args.line.now) c.args.self.now (Refused (BadLine c.args.number)) [] c.args.text.now.items c.show.new.into.items
+    c.show_statistics.new.text.items (bad c) (c.in_ok-show.ensures.ok ∙ ap (λ t. c.args.text.now.items ++ t) (sym (append-nil (show (Refused (BadLine c.args.number)))))) e)
     c.show_statistics.ensures.ok
 
 blank : (c : goal.Joined-said) → carry_out c.args.self.now c.args.number c.args.line.now ≡ record { state = c.args.self.now; answers = [] }
@@ -45,6 +45,6 @@ returns-clause-state c = on_ok c.show_statistics-2.result (sym (ap (λ k. k.stat
 pub returns-clause-answer : goal.returns-clause-answer
 returns-clause-answer c =
     on_ok_weaker c.show_statistics-2.result
-    (λ e. answered c.args.options.stats (carry_out c.args.self.now c.args.number c.args.line.now) c.perform.new.self c.in_ok-perform.ensures.ok.answer c.args.text.now.items c.perform.new.text.items
+    (λ e. answered c.args.options.stats (carry_out c.args.self.now c.args.number c.args.line.now) c.perform.new.self c.in_ok-perform.ensures.ok.answer c.in_ok-perform.ensures.ok.more c.args.text.now.items c.perform.new.text.items
     c.show_statistics-2.new.text.items (said c ∙ c.in_ok-perform.ensures.ok.carried) c.in_ok-perform.ensures.ok.shown e)
     c.show_statistics-2.ensures.ok

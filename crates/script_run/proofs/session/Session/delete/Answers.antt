@@ -7,6 +7,7 @@ use Rattle.mvcc_engine.specs.Step.{WasThere, step}
 use Rattle.script_run.specs.Grammar.{Del}
 use Rattle.script_run.specs.Output.{deleted}
 use Rattle.script_run.specs.Text.{Deleted}
+use Rattle.script_run.proofs.PartLaws.{answers-part}
 use Rattle.script_run.proofs.StepLaws.{taken, refused}
 use Rattle.script_run.proofs.session.Session.delete.Goals as goal
 
@@ -23,3 +24,7 @@ returns-clause-ok c =
     taken c.show.result c.args.text.now.items c.show.new.into.items c.args.self.now c.delete_at.new.self (Del c.args.key.now (time_of c.args.ts)) deleted
     (step c.args.self.now command) refl (WasThere c.in-Ok.found) (Deleted c.in-Ok.found)
     (subst (λ t. step t command ≡ Ok (record { state = c.delete_at.new.self; reply = WasThere c.in-Ok.found })) c.self.view_is c.in-Ok.ensures) refl c.show.ensures.ok
+
+pub invariant_of-self-2 : goal.invariant_of-self-2
+invariant_of-self-2 c =
+    answers-part c.self.inside.engine c.delete_at.new.self _ c.self.invariant c.delete_at.result WasThere c.delete_at.ensures

@@ -8,6 +8,7 @@ use Rattle.mvcc_engine.specs.Step.{Finished, step}
 use Rattle.script_run.specs.Grammar.{Put}
 use Rattle.script_run.specs.Output.{finished}
 use Rattle.script_run.specs.Text.{Accepted}
+use Rattle.script_run.proofs.PartLaws.{answers-part}
 use Rattle.script_run.proofs.StepLaws.{taken, refused}
 use Rattle.script_run.proofs.session.Session.put.Goals as goal
 
@@ -24,3 +25,7 @@ returns-clause-ok c =
     taken c.show.result c.args.text.now.items c.show.new.into.items c.args.self.now c.put_at.new.self (Put c.args.key.now (time_of c.args.ts) (Bytes c.args.value.now)) finished
     (step c.args.self.now command) refl Finished Accepted
     (subst (λ t. step t command ≡ Ok (record { state = c.put_at.new.self; reply = Finished })) c.self.view_is c.in_default.ensures) refl c.show.ensures.ok
+
+pub invariant_of-self-2 : goal.invariant_of-self-2
+invariant_of-self-2 c =
+    answers-part c.self.inside.engine c.put_at.new.self _ c.self.invariant c.put_at.result (λ done. Finished) c.put_at.ensures
