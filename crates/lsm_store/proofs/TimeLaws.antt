@@ -20,19 +20,6 @@ use Rattle.lsm_store.specs.Changing.{is_same_value, is_change}
 use Rattle.lsm_store.proofs.KnownLaws.{newer, known-append}
 use Rattle.lsm_store.proofs.ApplyLaws.{value_in}
 
--- a later timestamp is not up to an earlier one
-pub not_up_to : (s t : Timestamp) → is_before s t ≡ true → is_up_to t s ≡ false
-not_up_to s t h = by (time_cmp s t) (time_cmp t s) (time_cmp-total.antisymm t s) h
-  where
-    by : (o p : Ordering) → p ≡ ordering_reverse o → is_lt o ≡ true → is_le p ≡ false
-    by Less p e h = rw e refl
-    by Equal p e h = cc
-    by Greater p e h = cc
-
--- and one is above none
-pub above-none : (t : Timestamp) → is_no_time t ≡ false → is_up_to t no_time ≡ false
-above-none t timed = grind (arith, nat_tests)
-
 -- a point that is set at a timestamp has that timestamp
 set-time : (p : Point) (bytes : List ℕ) → p.value ≡ Some bytes → is_no_time p.name.ts ≡ false → point_time p ≡ Some p.name.ts
 set-time p bytes is timed = rw (is, timed) refl
@@ -75,13 +62,3 @@ unset-both n lists points first second =
     by (Some x) p first' second' = first'
     by None (Some x) first' second' = second'
     by None None first' second' = refl
-
--- an operation changes what is seen of a name that is not set just where it sets it
-pub change-unset : (value : Option (List ℕ)) (state : Option Point) → value_in state ≡ None → is_some value ≡ is_change value state
-change-unset value state unset = by value (value_in state) unset
-  where
-    by : (value seen : Option (List ℕ)) → seen ≡ None → is_some value ≡ not (is_same_value value seen)
-    by None None e = refl
-    by None (Some b) e = cc
-    by (Some a) None e = refl
-    by (Some a) (Some b) e = cc

@@ -7,7 +7,7 @@ ghost use Rattle.mem_table.specs.Places.{listed, AreNumbersOf};
 
 use crate::merge::merge;
 use crate::place::op_at;
-use mvcc_key::{OutOfMemory, PointOp, SortedPairs};
+use mvcc_key::{OutOfMemory, PointOp, SortedPairs, head_in};
 use std::alloc::Global;
 
 /// The point operations of a memory table: each name once, in order. A name keeps its number, so that a new one among them
@@ -73,6 +73,10 @@ impl SortedPairs for SortedOps {
 
     fn key(&self, index: usize) -> &[u8] {
         op_at(&self.ops, &self.order, index).key.as_slice()
+    }
+
+    fn head(&self, index: usize) -> u64 {
+        head_in(op_at(&self.ops, &self.order, index).key.as_slice())
     }
 
     fn value(&self, index: usize) -> Option<&[u8]> {

@@ -182,12 +182,3 @@ counted-planned h ys r s key ts body p view counted planned put =
     let is : IsPlanned (state_of h r) key ts body p = subst (λ t. IsPlanned t key ts body p) (sym view) planned in
     let put' : ys ≡ put_in_order version_cmp (new_version key ts body) h.versions = put ∙ ap (λ v. put_in_order version_cmp v h.versions) is.version in
     rw (put', is.stats) (counted-put h.versions r counted (max r.last ts.wall) (not_before _ r.last ts.wall refl).0 (new_version key ts body) is.kept)
-
--- and the state is the one after the write
-pub state-planned : (h after : Held) (r : Running) (s : State) (key : Key) (ts : Timestamp) (body : Body) (p : Planned) → state_of h r ≡ s → IsPlanned s key ts body p
-    → after.versions ≡ put_in_order version_cmp p.version h.versions → after.parts ≡ parts_between (history_of h.versions) (history_of after.versions) h.parts → state_of after p.stats ≡ state_after s key ts body
-state-planned h after r s key ts body p view planned put parts =
-    let is : IsPlanned (state_of h r) key ts body p = subst (λ t. IsPlanned t key ts body p) (sym view) planned in
-    let put' : after.versions ≡ put_in_order version_cmp (new_version key ts body) h.versions = put ∙ ap (λ v. put_in_order version_cmp v h.versions) is.version in
-    let one : state_of after p.stats ≡ state_after (state_of h r) key ts body = rw (parts, put', is.stats) refl in
-    subst (λ t. state_of after p.stats ≡ state_after t key ts body) view one

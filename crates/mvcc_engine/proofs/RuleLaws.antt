@@ -15,7 +15,8 @@ use Rattle.mvcc_engine.specs.Write.{checked, past_newest, new_version, is_presen
 use Rattle.mvcc_engine.specs.Step.{State, Reply, statistics, settled, parts_after, change}
 use Rattle.mvcc_engine.specs.Places.{AreVersions, is_ahead, is_of_lower_key, version_at, newest_version, in_the_way, history_of}
 use Rattle.mvcc_engine.specs.Seen.{Tells}
-use Rattle.mvcc_engine.proofs.VersionLaws.{items-history_of, newest_at-place, newest-place, not_up_to-before, up_to-not_before, up_to_none}
+use Rattle.mvcc_key.proofs.OrderLaws.{not_up_to-before, not_up_to-none}
+use Rattle.mvcc_engine.proofs.VersionLaws.{items-history_of, newest_at-place, newest-place, up_to-not_before}
 use Rattle.mvcc_engine.proofs.StoredLaws.{IsPlace-lower, IsPlace-ahead, row-found}
 use Rattle.mvcc_key.specs.Points.{Point, point_at, count_below}
 use Rattle.mvcc_engine.specs.declared.version.VersionRef.{VersionRef}
@@ -37,7 +38,7 @@ none_at key ts (v ∷ vs) nothing timed = by (is_same_key v.key key) (none_at ke
     by : (b : Bool) → newest_at ts (map version_item (filter (λ w. is_same_key w.key key) vs)) ≡ None
         → newest_at ts (map version_item (cond b (v ∷ filter (λ w. is_same_key w.key key) vs) (filter (λ w. is_same_key w.key key) vs))) ≡ None
     by false rest = rest
-    by true rest = rw (up_to_none v.ts ts timed.0 nothing) rest
+    by true rest = rw (not_up_to-none v.ts ts timed.0 nothing) rest
 
 -- so a read at one answers nothing
 pub get-none : (key : Key) (ts : Timestamp) (vs : List Version) → is_no_time ts ≡ true → AreVersions vs → None ≡ get (history_of vs) key ts

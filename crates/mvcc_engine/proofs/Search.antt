@@ -1,4 +1,4 @@
--- A search by halves finds the place where a test fails first.
+-- Tests that what stands before passes too.
 use Rattle.std.specs.Prelude.{◌≡◌, ◌≢◌, ℕ, ◌<◌, ◌≤◌, Bool, true, false, List, [], ◌∷◌, length, take, drop, IfSome}
 use Rattle.std.specs.List.{AllByRecursion, AllWithin}
 use Rattle.std.specs.List.Sorted.{IsStrictlySortedBy, IsPartitionedBy, IsPartitionPoint}
@@ -19,39 +19,7 @@ module _ {X : Type 0} (p : X → Bool) where
   PassesBack [] = Unit {0}
   PassesBack (x ∷ xs) = AllByRecursion (λ y. p y ≡ true → p x ≡ true) xs × PassesBack xs
 
-  passes_first : (x : X) (xs : List X) (j : ℕ) (d : X) → AllByRecursion (λ y. p y ≡ true → p x ≡ true) xs → j < length xs → p (get_or xs j d) ≡ true → p x ≡ true
-  passes_first x [] j d back within passes = absurd (omega arith)
-  passes_first x (y ∷ ys) zero d back within passes = back.0 passes
-  passes_first x (y ∷ ys) (suc j) d back within passes = passes_first x ys j d back.1 (omega arith) passes
-
-  pub partitioned : (xs : List X) → PassesBack xs → IsPartitionedBy p xs
-  partitioned [] back i j d le within passes = absurd (omega arith)
-  partitioned (x ∷ xs) back zero zero d le within passes = passes
-  partitioned (x ∷ xs) back zero (suc j) d le within passes = passes_first x xs j d back.0 (omega arith) passes
-  partitioned (x ∷ xs) back (suc i) zero d le within passes = absurd (omega arith)
-  partitioned (x ∷ xs) back (suc i) (suc j) d le within passes = partitioned xs back.1 i j d (omega arith) (omega arith) passes
-
--- a place by index is a place of a list that is cut there
 module _ (test : Version → Bool) where
-  passed_before : (xs : List Version) (i : ℕ) → i ≤ length xs → AllWithin (λ x. test x ≡ true) xs 0 i → AllByRecursion (λ v. test v ≡ true) (take i xs)
-  passed_before xs zero within passed = tt
-  passed_before [] (suc i) within passed = tt
-  passed_before (x ∷ xs) (suc i) within passed =
-      (passed 0 x (omega arith) (omega arith), passed_before xs i (omega arith) (λ k d low high. passed (suc k) d (omega arith) (omega arith)))
-
-  failed_at : (xs : List Version) (i : ℕ) → AllWithin (λ x. test x ≡ false) xs i (length xs) → IfSome (first (drop i xs)) (λ v. test v ≡ false)
-  failed_at [] zero failed = tt
-  failed_at [] (suc i) failed = tt
-  failed_at (x ∷ xs) zero failed = failed 0 x (omega arith) (omega arith)
-  failed_at (x ∷ xs) (suc i) failed = failed_at xs i (λ k d low high. failed (suc k) d (omega arith) (omega arith))
-
-  pub IsPlace-from : (xs : List Version) (i : ℕ) → i ≤ length xs → IsPartitionPoint (λ x. test x ≡ true) (λ x. test x ≡ false) xs i → IsPlace test xs i
-  IsPlace-from xs i within point = record {
-    within = within;
-    passed = passed_before xs i within point.0;
-    failed = failed_at xs i point.1;
-  }
-
   -- a test that passes back along the order of versions does so along a list in order
   pub passes_back : ((v w : Version) → is_no_time v.ts ≡ false → is_no_time w.ts ≡ false → version_cmp v w ≡ Less → test w ≡ true → test v ≡ true)
       → (xs : List Version) → AllByRecursion (λ v. is_no_time v.ts ≡ false) xs → IsStrictlySortedBy version_cmp xs → PassesBack (λ x. test x) xs

@@ -83,7 +83,3 @@ module _ (key : List ℕ) (ts : Timestamp) (value : List ℕ) (held : IsSpelledA
   -- and the point that it is stored as is made of them
   pub held-point : record { name = name_in key; value = Some value } ≡ point_of (version_of (record { name = name_in key; value = Some value }))
   held-point = ap (λ b. record { name = name_in key; value = Some b }) (sym held-value)
-
-  -- which is that version
-  pub held-version : version_of (point_of (version_of (record { name = name_in key; value = Some value }))) ≡ version_of (record { name = name_in key; value = Some value })
-  held-version = ap version_of (sym held-point)

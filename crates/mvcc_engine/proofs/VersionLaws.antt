@@ -15,22 +15,12 @@ use Rattle.mvcc_key.specs.Lists.{put_in_order, in_order, first}
 use Rattle.mvcc_key.specs.Order.{Timestamp, Key, time_cmp, key_cmp, newer_first, is_before, is_up_to, is_same_key, is_no_time}
 use Rattle.mvcc_key.specs.History.{Version, version_cmp, version_name}
 use Rattle.mvcc_key.specs.Items.{Item, items, version_item, item_cmp, newest, newest_at}
-use Rattle.mvcc_key.proofs.OrderLaws.{time_cmp-total, key_cmp-total, key_cmp-IsAntisymmetric, name_cmp-total}
-use Rattle.mvcc_key.proofs.SortedLaws.{IsBelowAll, put_in_order-sorted}
+use Rattle.mvcc_key.proofs.OrderLaws.{not_up_to-before, time_cmp-total, key_cmp-total, key_cmp-IsAntisymmetric, name_cmp-total}
+use Rattle.mvcc_key.proofs.SortedLaws.{IsBelowAll, in_order-same}
 use Rattle.mvcc_engine.specs.Places.{AreVersions, IsPlace, is_ahead, is_of_lower_key, version_at, history_of}
 
--- a list in strict order is in order
+-- an element among others
 module _ {X : Type 0} (cmp : X → X → Ordering) where
-  put_in_order-first : (x : X) (xs : List X) → IsBelowAll cmp x xs → put_in_order cmp x xs ≡ x ∷ xs
-  put_in_order-first x [] below = refl
-  put_in_order-first x (y ∷ ys) below = rw below.0 refl
-
-  pub in_order-sorted_same : (xs : List X) → IsStrictlySortedBy cmp xs → in_order cmp xs ≡ xs
-  unfolding IsStrictlySortedBy
-  in_order-sorted_same [] sorted = refl
-  in_order-sorted_same (x ∷ xs) sorted =
-      ap (put_in_order cmp x) (in_order-sorted_same xs sorted.1) ∙ put_in_order-first x xs sorted.0
-
   -- what stands above all of the first part goes into the second
   pub put_in_order-behind : (x : X) (xs ys : List X) → AllByRecursion (λ y. cmp x y ≡ Greater) xs
       → put_in_order cmp x (xs ++ ys) ≡ xs ++ put_in_order cmp x ys
@@ -94,7 +84,7 @@ pub items-history_of : (key : Key) (vs : List Version) → AreVersions vs → it
 unfolding items
 items-history_of key vs are =
     ap (in_order item_cmp) (append-nil (map version_item (filter (λ w. is_same_key w.key key) vs)))
-    ∙ in_order-sorted_same item_cmp _ (items_in_order key vs are.timed are.sorted)
+    ∙ in_order-same item_cmp _ (items_in_order key vs are.timed are.sorted)
 
 -- behind a version of a higher key none is of the key
 pub none_behind : (key : Key) (v : Version) (vs : List Version) → key_cmp v.key key ≡ Greater → AllByRecursion (λ w. version_cmp v w ≡ Less) vs
@@ -145,18 +135,6 @@ up_to-not_before s t h = by (time_cmp s t) (time_cmp t s) (time_cmp-total.antisy
     by Less p e h = cc
     by Equal p e h = rw e refl
     by Greater p e h = rw e refl
-
-pub not_up_to-before : (s t : Timestamp) → is_before s t ≡ true → is_up_to t s ≡ false
-not_up_to-before s t h = by (time_cmp s t) (time_cmp t s) (time_cmp-total.antisymm t s) h
-  where
-    by : (o p : Ordering) → p ≡ ordering_reverse o → is_lt o ≡ true → is_le p ≡ false
-    by Less p e h = rw e refl
-    by Equal p e h = cc
-    by Greater p e h = cc
-
--- a timestamp is not up to one that is none
-pub up_to_none : (t none : Timestamp) → is_no_time t ≡ false → is_no_time none ≡ true → is_up_to t none ≡ false
-up_to_none t none timed nothing = grind (arith, nat_tests)
 
 -- the items of the key among these versions
 abbrev pub items_among : Key → List Version → List Item
@@ -285,28 +263,6 @@ put_in_order-place new vs place are timed is newer =
     ap (put_in_order version_cmp new) (sym (take-append-drop place vs))
     ∙ put_in_order-behind version_cmp new (take place vs) (drop place vs) (above_lower new (take place vs) is.passed)
     ∙ ap (λ l. take place vs ++ l) (first_before new (drop place vs) timed (timed-drop place vs are.timed) is.failed newer)
-
-timed-put : (new : Version) (vs : List Version) → is_no_time new.ts ≡ false → AllByRecursion (λ v. is_no_time v.ts ≡ false) vs
-    → AllByRecursion (λ v. is_no_time v.ts ≡ false) (put_in_order version_cmp new vs)
-timed-put new [] timed rest = (timed, tt)
-timed-put new (v ∷ vs) timed rest =
-    elim (version_cmp new v) as (λ o. AllByRecursion (λ w. is_no_time w.ts ≡ false) (match_ordering o (new ∷ v ∷ vs) (new ∷ vs) (v ∷ put_in_order version_cmp new vs))) [
-      | Less ↦ (timed, rest)
-      | Equal ↦ (timed, rest.1)
-      | Greater ↦ (rest.0, timed-put new vs timed rest.1)
-    ]
-
--- versions stay versions with one more
-pub AreVersions-put : (new : Version) (vs : List Version) → AreVersions vs → is_no_time new.ts ≡ false → AreVersions (put_in_order version_cmp new vs)
-AreVersions-put new vs are timed = record {
-  sorted = put_in_order-sorted version_cmp-total new vs are.sorted;
-  timed = timed-put new vs timed are.timed;
-}
-
--- no versions are versions
-pub AreVersions-nil : AreVersions []
-unfolding IsStrictlySortedBy
-AreVersions-nil = record { sorted = tt; timed = tt }
 
 -- it is of the key
 pub version_at-key : (key : Key) (vs : List Version) (v : Version) → version_at key vs ≡ Some v → v.key ≡ key

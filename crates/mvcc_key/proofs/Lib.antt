@@ -23,4 +23,5 @@ pub mod ApartLaws
 pub mod NamedLaws
 pub mod ClockLaws
 pub mod PointLaws
+pub mod HeadLaws
 pub mod SeenPointLaws

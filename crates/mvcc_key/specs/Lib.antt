@@ -15,6 +15,7 @@ pub mod Canonical
 pub mod Pieces
 pub mod Looks
 pub mod Encoded
+pub mod Heads
 pub mod Clock
 pub mod Points
 pub mod Seen

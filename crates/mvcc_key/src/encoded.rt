@@ -7,6 +7,7 @@ ghost use Rattle.mvcc_key.specs.Encoded.{name_in, rank_of, IsName};
 ghost use Rattle.mvcc_key.specs.Seen.{time_of};
 ghost use Rattle.mvcc_key.specs.SeenKey.{reading_of};
 
+use crate::heads::{cmp_past_heads, head_in};
 use crate::numbers::{put_u32, put_u64, read_u32, read_u64};
 use crate::{OutOfMemory, Timestamp};
 use std::alloc::Global;
@@ -208,8 +209,8 @@ pub fn cmp_encoded(a: &[u8], b: &[u8]) -> Ordering
     requires right { IsOk (name_of b.now) }
     ensures { result ≡ name_cmp (name_in a.now) (name_in b.now) }
 {
-    match key_in(a).cmp(key_in(b)) {
-        Ordering::Equal => rank_in(b).cmp(&rank_in(a)),
+    match head_in(a).cmp(&head_in(b)) {
+        Ordering::Equal => cmp_past_heads(a, b),
         unequal => unequal,
     }
 }
@@ -224,7 +225,7 @@ fn last_byte(bytes: &[u8]) -> u8
 }
 
 /// The key of an encoded key.
-fn key_in(bytes: &[u8]) -> &[u8]
+pub(crate) fn key_in(bytes: &[u8]) -> &[u8]
     requires { IsOk (name_of bytes.now) }
     ensures { result.now ≡ (name_in bytes.now).key }
 {
@@ -234,7 +235,7 @@ fn key_in(bytes: &[u8]) -> &[u8]
 
 /// Where an encoded key stands among those of its key: the wall time and the counter, and for the record more than any of
 /// these. The greater ones come first.
-fn rank_in(bytes: &[u8]) -> (u64, u32)
+pub(crate) fn rank_in(bytes: &[u8]) -> (u64, u32)
     requires { IsOk (name_of bytes.now) }
     ensures wall { result.0 ≡ rank_of (name_in bytes.now).ts }
     ensures logical { result.1 ≡ (name_in bytes.now).ts.logical }

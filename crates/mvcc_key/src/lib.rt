@@ -4,6 +4,7 @@
 mod batch;
 mod cursor;
 mod encoded;
+mod heads;
 mod key;
 mod laws;
 mod list;
@@ -17,6 +18,7 @@ mod timestamp;
 pub use batch::{Batch, PointOp, RangeOp};
 pub use cursor::Cursor;
 pub use encoded::{KeyFault, KeyRef, cmp_encoded, decode_key, encode_key};
+pub use heads::head_in;
 pub use key::Key;
 pub use laws::{
     laws_of_changes, laws_of_cuts, laws_of_fragments, laws_of_middles, laws_of_names,

@@ -1,14 +1,14 @@
 //! Sorted pairs that are reached by their numbers, and the cursor over them.
-ghost use Rattle.std.specs.Prelude.{◌≡◌, ◌≤◌, ◌<◌, ◌+◌, ◌^◌, List, length, slice_get, true, Some, IsTrue, IsOk};
+ghost use Rattle.std.specs.Prelude.{◌≡◌, ◌≤◌, ◌<◌, ◌+◌, ◌^◌, List, length, slice_get, true, Some, IfSome, IsTrue, IsOk};
 ghost use Rattle.std.specs.Option.{option_map, option_and_then};
-ghost use Rattle.std.specs.Ordering.{is_lt};
-ghost use Rattle.mvcc_key.specs.Order.{name_cmp};
 ghost use Rattle.mvcc_key.specs.KeyFormat.{encoded_name, name_of};
 ghost use Rattle.mvcc_key.specs.Encoded.{name_in};
+ghost use Rattle.mvcc_key.specs.Heads.{IsHead};
 ghost use Rattle.mvcc_key.specs.Looks.{bits};
-ghost use Rattle.mvcc_key.specs.Points.{Point, IsRising, AreEncodable, count_below};
+ghost use Rattle.mvcc_key.specs.Points.{Point, IsRising, AreEncodable, count_below, is_below_name};
 
-use crate::{Cursor, Steps, cmp_encoded};
+use crate::heads::{cmp_past_heads, head_in};
+use crate::{Cursor, Steps};
 use std::cmp::Ordering;
 use std::sync::ledger::Ledger;
 
@@ -27,6 +27,11 @@ pub trait SortedPairs {
         requires { index < length (points self.now) }
         ensures { option_map (λ p. encoded_name p.name) (slice_get (points self.now) index) ≡ Some result.now };
 
+    /// The head of a pair's key, as [`head_in`] tells it.
+    fn head(&self, index: usize) -> u64
+        requires { index < length (points self.now) }
+        ensures { IfSome (slice_get (points self.now) index) (λ p. IsHead p.name.key result) };
+
     /// The value of a pair, and `None` where it is cleared.
     fn value(&self, index: usize) -> Option<&[u8]>
         requires { index < length (points self.now) }
@@ -37,17 +42,25 @@ pub trait SortedPairs {
     ghost encodable: { (s : Self) → AreEncodable (points s) };
 }
 
-/// One look: whether a stored key is below the one sought.
-fn is_below<L: Ledger>(stored: &[u8], sought: &[u8], steps: &mut Steps<L>) -> bool
-    requires stored { IsOk (name_of stored.now) }
+/// One look: whether a pair is below the encoded key sought, whose head is known. Mostly the heads decide.
+fn is_below<P: SortedPairs, L: Ledger>(
+    pairs: &P,
+    index: usize,
+    sought: &[u8],
+    head: u64,
+    steps: &mut Steps<L>,
+) -> bool
+    requires within { index < length (P.points pairs.now) }
     requires sought { IsOk (name_of sought.now) }
-    ensures answer { result ≡ is_lt (name_cmp (name_in stored.now) (name_in sought.now)) }
+    requires head { IsHead (name_in sought.now).key head }
+    ensures answer { IfSome (slice_get (P.points pairs.now) index) (λ p. result ≡ is_below_name (name_in sought.now) p) }
     ensures cost { steps.new ≡ steps.old + 1 }
 {
     steps.tick();
-    match cmp_encoded(stored, sought) {
+    match pairs.head(index).cmp(&head) {
         Ordering::Less => true,
-        Ordering::Equal | Ordering::Greater => false,
+        Ordering::Equal => cmp_past_heads(pairs.key(index), sought).is_lt(),
+        Ordering::Greater => false,
     }
 }
 
@@ -61,11 +74,12 @@ fn pairs_below<P: SortedPairs, L: Ledger>(pairs: &P, sought: &[u8], steps: &mut 
     ensures later { steps.old ≤ steps.new }
     ensures bound { steps.new ≤ steps.old + bits (length (P.points pairs.now)) }
 {
+    let head = head_in(sought);
     let mut low = 0;
     let mut high = pairs.len();
     while low < high {
         let middle = low + (high - low) / 2;
-        if is_below(pairs.key(middle), sought, steps) {
+        if is_below(pairs, middle, sought, head, steps) {
             low = middle + 1;
         } else {
             high = middle;

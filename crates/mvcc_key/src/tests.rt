@@ -110,8 +110,8 @@ fn order_of(a: &[u8], b: &[u8]) -> Option<Ordering> {
 
 #[test]
 fn names_stand_in_their_order(rt: HostRuntime) {
-    // key by key, the record first, and then the newer version first
-    let rising: [&[u8]; 11] = [
+    // key by key, the record first, and then the newer version first; the last keys have one head
+    let rising: [&[u8]; 18] = [
         b"\x00",
         b"a\x00",
         b"a\x00\x00\x00\x00\x00\x00\x00\x00\x03\x09",
@@ -123,6 +123,13 @@ fn names_stand_in_their_order(rt: HostRuntime) {
         b"a\x09\x00",
         b"a\x0d\x00\x00\x00\x00\x00\x00\x00\x00\x00\x00\x00\x00\x01\x0d",
         b"b\x00\x7f\xff\xff\xff\xff\xff\xff\xff\x09",
+        b"ba\x00",
+        b"bbbbbbb\x00",
+        b"bbbbbbbb\x00",
+        b"bbbbbbbb\x00\x00\x00\x00\x00\x00\x00\x00\x01\x09",
+        b"bbbbbbbb\x00\x00",
+        b"bbbbbbbbb\x00",
+        b"bbbbbbbbc\x00",
     ];
     for (i, a) in rising.iter().enumerate() {
         for (j, b) in rising.iter().enumerate() {

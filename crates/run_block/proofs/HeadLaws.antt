@@ -7,6 +7,7 @@ use Rattle.std.proofs.Math.Seq.{drop-append-add}
 use Rattle.std.proofs.lemmas.List.{length-append, length-map, append-nil}
 use Rattle.std.proofs.lemmas.List.Elements.{All-head, All-tail, All-nil}
 use Rattle.mvcc_key.specs.Encoded.{IsName, name_in}
+use Rattle.mvcc_key.specs.Heads.{IsHead}
 use Rattle.mvcc_key.specs.Points.{Point, IsRising}
 use Rattle.mem_table.specs.Entries.{IsStoredPoint}
 use Rattle.run_block.specs.RunFormat.{Run, point_bytes, run_bytes}
@@ -51,6 +52,7 @@ placed-behind a b rest p same behind h =
       key = (let k = h.key in omega arith);
       value = λ v e. (let le = h.value v e in omega arith);
       name = subst IsName (sym (piece_in-behind a b rest p.key same behind.key)) h.name;
+      head = subst (λ (key : List ℕ). IsHead (name_in key).key p.head) (sym (piece_in-behind a b rest p.key same behind.key)) h.head;
     }
 
 -- points behind a head

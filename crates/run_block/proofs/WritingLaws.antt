@@ -5,6 +5,7 @@ use Rattle.std.specs.Option.{ForSome, option_map}
 use Rattle.std.proofs.lemmas.List.{take-append-le, drop-append-le, length-append, length-drop}
 use Rattle.std.proofs.lemmas.List.Elements.{All-head, All-tail, All-weaker}
 use Rattle.mvcc_key.specs.Encoded.{IsName, name_in}
+use Rattle.mvcc_key.specs.Heads.{IsHead}
 use Rattle.run_block.specs.RunFormat.{Run}
 use Rattle.run_block.specs.TimeSpan.{times_of, span_of}
 use Rattle.run_block.specs.Places.{piece_in, point_in, range_in, points_in, ranges_in, IsPlaced, IsRangePlaced, run_in, IsIndex}
@@ -45,6 +46,7 @@ placed-more bytes more p h = record {
   key = (let k = h.key in omega (arith, length-append bytes more));
   value = λ v e. (let le = h.value v e in omega (arith, length-append bytes more));
   name = subst IsName (sym (piece_in-more bytes more p.key h.key)) h.name;
+  head = subst (λ (key : List ℕ). IsHead (name_in key).key p.head) (sym (piece_in-more bytes more p.key h.key)) h.head;
 }
 
 pub range_placed-more : (bytes more : List ℕ) (r : RangePlace) → IsRangePlaced bytes r → IsRangePlaced (bytes ++ more) r

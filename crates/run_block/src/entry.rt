@@ -14,7 +14,7 @@ use crate::piece::Piece;
 use crate::place::{PointPlace, RangePlace};
 use crate::reader::Reader;
 use crate::{FileKind, RunFault};
-use mvcc_key::{Timestamp, cmp_encoded, decode_key};
+use mvcc_key::{Timestamp, cmp_encoded, decode_key, head_in};
 
 /// The bytes of a key, at most.
 const MAX_KEY_LEN: usize = 4096;
@@ -106,7 +106,8 @@ impl Reader<'_> {
             return Err(bad_order);
         }
         let value = self.value(set, bad_value)?;
-        Ok(PointPlace { key, value })
+        let head = head_in(key.of(self.bytes));
+        Ok(PointPlace { key, value, head })
     }
 
     /// A range operation, which is judged when it is whole, but for its kind and the lengths of its bounds.

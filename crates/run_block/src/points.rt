@@ -32,6 +32,10 @@ impl SortedPairs for RunPoints {
         place.key.of(self.bytes.as_slice())
     }
 
+    fn head(&self, index: usize) -> u64 {
+        self.places[index].head
+    }
+
     fn value(&self, index: usize) -> Option<&[u8]> {
         let place = self.places[index];
         match place.value {

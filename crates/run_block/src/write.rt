@@ -12,7 +12,7 @@ ghost use Rattle.run_block.specs.Writing.{head_bytes, point_with, IsBehind};
 use crate::numbers::{put_u32, put_u64, set_u64};
 use crate::piece::Piece;
 use crate::place::{PointPlace, RangePlace};
-use mvcc_key::{Bytes, OutOfMemory, RangeOp};
+use mvcc_key::{Bytes, OutOfMemory, RangeOp, head_in};
 
 /// How a run begins.
 pub(crate) const MAGIC: &[u8; 8] = b"MVCCRUN1";
@@ -107,10 +107,11 @@ pub(crate) fn put_point(
     ensures behind { IfOk result (IsBehind (length out.old.items)) }
     ensures point { IfOk result (λ p. point_in out.new.items p ≡ point_with key.now (option_map (λ v. v.now) value.entry)) }
 {
+    let head = head_in(key);
     put_kind(out, value)?;
     let key = put_counted(out, key)?;
     let value = put_value(out, value)?;
-    Ok(PointPlace { key, value })
+    Ok(PointPlace { key, value, head })
 }
 
 /// Puts a range operation, and tells where it lies.

@@ -8,7 +8,7 @@ ghost use Rattle.mvcc_key.specs.KeyFormat.{name_of};
 ghost use Rattle.mvcc_key.specs.Encoded.{name_in};
 ghost use Rattle.mvcc_key.specs.SeenPoint.{points_of, AreNamed, IsAboveLast};
 
-use crate::{OutOfMemory, PointOp, SortedPairs, cmp_encoded, decode_key};
+use crate::{OutOfMemory, PointOp, SortedPairs, cmp_encoded, decode_key, head_in};
 use std::alloc::Global;
 use std::cmp::Ordering;
 
@@ -76,6 +76,10 @@ impl SortedPairs for Listed {
 
     fn key(&self, index: usize) -> &[u8] {
         self.held[index].key.as_slice()
+    }
+
+    fn head(&self, index: usize) -> u64 {
+        head_in(self.held[index].key.as_slice())
     }
 
     fn value(&self, index: usize) -> Option<&[u8]> {

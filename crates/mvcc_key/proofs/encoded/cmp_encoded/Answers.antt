@@ -1,16 +1,9 @@
-use Rattle.std.proofs.Common.{◌≡◌, sym, ap, ◌∙◌}
-use Rattle.std.specs.declared.cmp.Ordering.{Ordering}
-use Rattle.std.specs.declared.cmp.Ordering.TheVariants.{Equal}
-use Rattle.std.specs.Ordering.{ordering_then}
-use Rattle.mvcc_key.specs.Order.{key_cmp}
+use Rattle.std.proofs.Common.{sym, ◌∙◌}
 use Rattle.mvcc_key.specs.Encoded.{name_in}
-use Rattle.mvcc_key.proofs.NamedLaws.{name_cmp-ranks, rank_cmp}
+use Rattle.mvcc_key.proofs.HeadLaws.{names-apart}
 use Rattle.mvcc_key.proofs.encoded.cmp_encoded.Goals as goal
 
-pub returns-in-Equal : goal.returns-in-Equal
-returns-in-Equal c =
-    let m = name_in c.args.a.now in
-    let n = name_in c.args.b.now in
-    let keys : key_cmp m.key n.key ≡ Equal = rw (← c.key_in.ensures, ← c.key_in-2.ensures) (sym c.cmp.ensures ∙ c.in-Equal.is) in
-    let whole = name_cmp-ranks c.args.a.now c.args.b.now c.requires.left c.requires.right ∙ ap (λ (o : Ordering). ordering_then o (rank_cmp m.ts n.ts)) keys in
-    (rw (c.rank_in.ensures.wall, c.rank_in.ensures.logical, c.rank_in-in-Equal.ensures.wall, c.rank_in-in-Equal.ensures.logical) at c.cmp-in-Equal.ensures) ∙ sym whole
+pub returns-in_default : goal.returns-in_default
+returns-in_default c =
+    c.cmp.ensures
+    ∙ sym (names-apart (name_in c.args.a.now) (name_in c.args.b.now) c.head_in.result c.head_in-2.result c.head_in.ensures c.head_in-2.ensures (λ same. c.in_default.not-Equal (c.cmp.ensures ∙ same)))

@@ -1,16 +1,26 @@
-use Rattle.std.proofs.Common.{◌≡◌, ◌+◌, ◌-◌, ◌/◌, ◌≤◌, sym, ◌∙◌, arith, inr, true, false}
+use Rattle.std.proofs.Common.{◌≡◌, ℕ, ◌+◌, ◌-◌, ◌/◌, ◌<◌, ◌≤◌, List, length, sym, subst, ◌∙◌, arith, inl, inr, Bool, true, false}
+use Rattle.std.specs.Prelude.{Option, Some, IfSome, slice_get}
+use Rattle.std.proofs.lemmas.Option.{slice_get_cases}
 use Rattle.mvcc_key.specs.Encoded.{name_in}
 use Rattle.mvcc_key.specs.Looks.{bits}
-use Rattle.mvcc_key.specs.Points.{is_below_name}
+use Rattle.mvcc_key.specs.Points.{Point, is_below_name}
+use Rattle.mvcc_key.specs.Order.{Name}
 use Rattle.mvcc_key.proofs.LookLaws.{bits-half}
-use Rattle.mvcc_key.proofs.PointLaws.{HasPoint-key, named-key, below-key, IsNarrowed-below, IsNarrowed-above, count_below-narrowed}
+use Rattle.mvcc_key.proofs.PointLaws.{IsNarrowed-below, IsNarrowed-above, count_below-narrowed}
 use Rattle.mvcc_key.proofs.pairs.pairs_below.Goals as goal
 
-pub is_below-requires-clause-stored : goal.is_below-requires-clause-stored
-is_below-requires-clause-stored g c =
-    let points = g.P.SortedPairs.points c.args.pairs.now in
-    let middle = c.loop-low.low + (c.loop-low.high - c.loop-low.low) / 2 in
-    named-key points middle c.key.result.now (HasPoint-key points middle c.key.result.now (g.met.P.SortedPairs.encodable c.args.pairs.now) c.key.ensures)
+-- the point in the middle, and whether it is below
+record Middle (points : List Point) (name : Name) (i : ℕ) (below : Bool) : Type 0 where
+  point : Point
+  here : slice_get points i ≡ Some point
+  is_below : is_below_name name point ≡ below
+
+middle-point : (points : List Point) (name : Name) (i : ℕ) (below : Bool) → i < length points → IfSome (slice_get points i) (λ p. below ≡ is_below_name name p) → Middle points name i below
+middle-point points name i below within answer =
+    elim (slice_get_cases points i).1 [
+      | inl h ↦ record { point = h.0; here = h.2; is_below = sym (subst (λ (o : Option Point). IfSome o (λ p. below ≡ is_below_name name p)) h.2 answer) }
+      | inr h ↦ absurd (let past = h.0 in omega arith)
+    ]
 
 pub loop-low-preserved-then-is_below : goal.loop-low-preserved-then-is_below
 loop-low-preserved-then-is_below g c =
@@ -19,8 +29,8 @@ loop-low-preserved-then-is_below g c =
     let low = c.loop-low.low in
     let high = c.loop-low.high in
     let middle = low + (high - low) / 2 in
-    let h = HasPoint-key points middle c.key.result.now (g.met.P.SortedPairs.encodable c.args.pairs.now) c.key.ensures in
-    let below : is_below_name name h.point ≡ true = sym (below-key name points middle c.key.result.now h) ∙ sym c.is_below.ensures.answer ∙ c.if-is_below.true in
+    let h = middle-point points name middle c.is_below.result (omega arith) c.is_below.ensures.answer in
+    let below : is_below_name name h.point ≡ true = h.is_below ∙ c.if-is_below.true in
     let half : bits (high - (middle + 1)) + 1 ≤ bits (high - low) = bits-half _ _ (omega arith) (omega arith) in
     record {
       narrowed = IsNarrowed-below name points low high middle h.point (g.met.P.SortedPairs.rising c.args.pairs.now) c.loop-low.invariant.narrowed (omega arith) h.here below;
@@ -36,8 +46,8 @@ loop-low-preserved g c =
     let low = c.loop-low.low in
     let high = c.loop-low.high in
     let middle = low + (high - low) / 2 in
-    let h = HasPoint-key points middle c.key.result.now (g.met.P.SortedPairs.encodable c.args.pairs.now) c.key.ensures in
-    let below : is_below_name name h.point ≡ false = sym (below-key name points middle c.key.result.now h) ∙ sym c.is_below.ensures.answer ∙ c.if-is_below.false in
+    let h = middle-point points name middle c.is_below.result (omega arith) c.is_below.ensures.answer in
+    let below : is_below_name name h.point ≡ false = h.is_below ∙ c.if-is_below.false in
     let half : bits (middle - low) + 1 ≤ bits (high - low) = bits-half _ _ (omega arith) (omega arith) in
     record {
       narrowed = IsNarrowed-above name points low high middle h.point (g.met.P.SortedPairs.rising c.args.pairs.now) c.loop-low.invariant.narrowed (omega arith) (omega arith) h.here below;
