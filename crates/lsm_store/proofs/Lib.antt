@@ -2,6 +2,7 @@ pub mod KnownLaws
 pub mod SoughtLaws
 pub mod ApplyLaws
 pub mod ChangeLaws
+pub mod OneLaws
 pub mod FilterLaws
 pub mod TimeLaws
 pub mod SeenLaws

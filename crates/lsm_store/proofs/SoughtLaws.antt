@@ -129,6 +129,12 @@ sought-gone key value points before place here s here_is at_other =
     ap (λ (b : Bool). cond b (Some (not (is_same_value value (value_at points place)))) None) (sym at_other ∙ here_is)
     ∙ sought-moved key value points before place s
 
+-- what an operation changes of a name, by the value that is known of it
+pub value-change : (value : Option (List ℕ)) (known : Option (Option (List ℕ))) (state : Option Point) → known ≡ option_map (λ p. p.value) state
+    → option_map (λ v. not (is_same_value value v)) known ≡ option_map (λ p. is_change value (Some p)) state
+value-change value known None h = ap (option_map (λ v. not (is_same_value value v))) h
+value-change value known (Some p) h = ap (option_map (λ v. not (is_same_value value v))) h
+
 -- ---- several parts
 
 -- the next of those that are left

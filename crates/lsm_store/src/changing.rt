@@ -7,12 +7,13 @@ ghost use Rattle.mvcc_key.specs.Encoded.{IsName, name_in};
 ghost use Rattle.mvcc_key.specs.Points.{key_at};
 ghost use Rattle.mvcc_key.specs.SeenPoint.{point_of};
 ghost use Rattle.mem_table.specs.Entries.{IsStorable};
+ghost use Rattle.mem_table.specs.Places.{IsPlaceOf};
 ghost use Rattle.mem_table.specs.Table.{state_of};
 ghost use Rattle.merge_cursor.specs.Merged.{joined};
 ghost use Rattle.lsm_store.specs.Shown.{shown};
 ghost use Rattle.lsm_store.specs.Changing.{is_same_value, is_change, changes_points};
 
-use mem_table::MemTable;
+use mem_table::{MemPlace, MemTable};
 use mvcc_key::{Bytes, Cursor, PointOp, Steps, Timestamp, decode_key};
 use run_block::Run;
 use std::marker::Brand;
@@ -47,6 +48,28 @@ fn changes<L: Ledger>(table: &MemTable, runs: &[Run], op: &PointOp, blank: Blank
     match changes_part(&mut table.cursor(), op, &mut steps) {
         Some(change) => change,
         None => changes_runs(runs, op, &mut steps),
+    }
+}
+
+/// The same for an operation whose name has this place in the memory table, by which it is not sought there again.
+pub(crate) fn changes_at<L: Ledger>(
+    table: &MemTable,
+    place: MemPlace,
+    runs: &[Run],
+    op: &PointOp,
+    blank: Blank,
+) -> bool
+    requires name { blank.name ≡ L.name }
+    requires parts { blank.parts ≡ L.parts }
+    requires some { 0 < blank.parts }
+    requires op { IsName op.now.key }
+    requires place { IsPlaceOf (name_in op.now.key) table.now.points place }
+    ensures { let points = shown (table.now.points ∷ map (λ r. r.points) runs.now) in
+        result ≡ changes_points points (point_of op.now) }
+{
+    match table.value_at(place) {
+        Some(value) => !is_same(&op.value, value),
+        None => changes_runs(runs, op, &mut Steps::<L>::new(blank)),
     }
 }
 

@@ -1,21 +1,22 @@
 //! The store of parts.
-ghost use Rattle.std.specs.Prelude.{◌≡◌, ◌≤◌, map, All, IfOk, OnOk, OnErr};
+ghost use Rattle.std.specs.Prelude.{◌≡◌, ◌≤◌, [], ◌∷◌, map, All, IfOk, OnOk, OnErr};
 ghost use Rattle.mvcc_key.specs.SeenPoint.{points_of};
-ghost use Rattle.mem_table.specs.Entries.{IsBatch};
+ghost use Rattle.mem_table.specs.Entries.{IsBatch, IsStorable};
 ghost use Rattle.lsm_store.specs.Parts.{after_batch, flushed, compacted, layout};
 ghost use Rattle.lsm_store.specs.Shown.{no_points, shown, with_batch, parts_of, stage_of};
 ghost use Rattle.lsm_store.specs.Seen.{seen_shape};
 
-use crate::changing::retain_changes;
+use crate::changing::{changes_at, retain_changes};
 use crate::counting::{entries_len, shape_of};
 use crate::uniting::unite;
 use crate::{PartCursor, PartShape, StoreCursor};
 use mem_table::MemTable;
 use merge_cursor::{MergeCursor, VisibleCursor};
-use mvcc_key::{Batch, Cursor, Items, OutOfMemory};
+use mvcc_key::{Batch, Cursor, Items, OutOfMemory, PointOp};
 use run_block::{Run, collect};
 use std::alloc::Global;
-use std::marker::Model;
+use std::marker::{Brand, Model};
+use std::sync::ledger::Blank;
 
 /// Stored pairs in parts: a memory table, which takes up what is written, and under it sorted runs, from the newest to the
 /// oldest (Pebble's memtable and sstables). Of each name the newest part counts. Contracts see it as the points of its parts,
@@ -61,11 +62,29 @@ impl Store {
     {
         let Batch { points, ranges } = batch;
         let mut ops = points.into_vec();
+        if ops.len() == 1 {
+            return self.apply_one(ops.swap_remove(0));
+        }
         retain_changes(&mut ops, &self.table, &self.runs);
         self.table.apply(Batch {
             points: Items::of(ops),
             ranges,
         })
+    }
+
+    /// The same for one operation, whose name is sought in the memory table once.
+    fn apply_one(&mut self, op: PointOp) -> Result<(), OutOfMemory>
+        requires { IsStorable op }
+        ensures shown { OnOk result (shown self.new ≡ with_batch (points_of (op ∷ [])) (shown self.old)) }
+        ensures parts { OnOk result (parts_of self.new ≡ after_batch (stage_of self.old) (stage_of self.new) (parts_of self.old)) }
+        ensures err { OnErr result (self.new ≡ self.old) }
+    {
+        let place = self.table.find(op.key.as_slice());
+        if changes_at::<Brand>(&self.table, place, &self.runs, &op, Blank::new(1)) {
+            self.table.put_at(place, op)
+        } else {
+            Ok(())
+        }
     }
 
     /// Makes a memory table that is not empty the newest run, under an empty table. An empty one is left.

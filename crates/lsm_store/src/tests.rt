@@ -178,9 +178,26 @@ const REPLACED: Case = (
     &[(b"a", 1, Some(b"new")), C],
 );
 
+/// One name at a time: where the table knows it, its state there decides, set or cleared, and else that of the run.
+const ONE_BY_ONE: Case = (
+    &[
+        (Step::Apply(&[B]), &[(1, 0)]),
+        (Step::Apply(&[A]), &[(2, 0)]),
+        (Step::Apply(&[A]), &[(2, 0)]),
+        (Step::Apply(&[NO_A]), &[(2, 1)]),
+        (Step::Apply(&[NO_A]), &[(2, 1)]),
+        (Step::Flush, &[(0, 0), (2, 1)]),
+        (Step::Apply(&[NO_A]), &[(0, 0), (2, 1)]),
+        (Step::Apply(&[A]), &[(1, 0), (2, 1)]),
+        (Step::Apply(&[NO_B]), &[(2, 1), (2, 1)]),
+        (Step::Apply(&[B]), &[(2, 0), (2, 1)]),
+    ],
+    &[A, B],
+);
+
 #[test]
 fn parts_come_and_go(rt: HostRuntime) -> Result<(), Fail> {
-    for (steps, states) in [CLEARED, OLDEST, UNCHANGED, REPLACED] {
+    for (steps, states) in [CLEARED, OLDEST, UNCHANGED, REPLACED, ONE_BY_ONE] {
         let mut store = Store::new(rt.alloc());
         for (step, shapes) in steps {
             make(rt.alloc(), &mut store, *step)?;

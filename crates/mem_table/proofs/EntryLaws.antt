@@ -1,6 +1,6 @@
 -- Entries by their operations and by their points.
-use Rattle.std.proofs.Common.{◌≡◌, ℕ, List, [], ◌∷◌, ◌++◌, take, refl, ap, ◌∙◌}
-use Rattle.std.specs.Prelude.{All}
+use Rattle.std.proofs.Common.{◌≡◌, ℕ, List, [], ◌∷◌, ◌++◌, take, refl, sym, ap, subst, ◌∙◌}
+use Rattle.std.specs.Prelude.{All, Result, Ok, Err, OnOk, OnErr}
 use Rattle.std.specs.List.{AllByRecursion}
 use Rattle.std.specs.List.Sorted.{IsStrictlySortedBy}
 use Rattle.std.specs.declared.cmp.Ordering.{Ordering}
@@ -91,6 +91,16 @@ entries-take n ops e = entries-sorted (take n ops) (each_take IsStorable n ops (
 pub entries-front : (ops others : List PointOp) → AreEntries (ops ++ others) → AreEntries ops
 entries-front ops others e =
     entries-sorted ops (each_front IsStorable ops others (each-entries (ops ++ others) e)) (sorted_front op_cmp ops others (sorted-entries (ops ++ others) e))
+
+-- one storable operation is entries
+pub entries-one : (op : PointOp) → IsStorable op → AreEntries (op ∷ [])
+unfolding IsStrictlySortedBy
+entries-one op h = entries-sorted (op ∷ []) (h, tt) (tt, tt)
+
+-- entries, whether they are the new ones or stay
+pub entries-either : {T E : Type 0} (r : Result T E) (now new old : List PointOp) → OnOk r (now ≡ new) → OnErr r (now ≡ old) → AreEntries new → AreEntries old → AreEntries now
+entries-either (Ok x) now new old ok err n o = subst AreEntries (sym ok) n
+entries-either (Err e) now new old ok err n o = subst AreEntries (sym err) o
 
 -- newer entries among older ones are entries
 pub entries-newest : (newer older : List PointOp) → AreEntries newer → AreEntries older → AreEntries (newest_ops newer older)

@@ -1,9 +1,11 @@
 pub mod OrderedLaws
 pub mod EntryLaws
 pub mod RangeLaws
+pub mod PlaceLaws
 pub mod MoveLaws
 pub mod StepLaws
 pub mod StateLaws
+pub mod TableLaws
 pub mod NumberLaws
 pub mod ListedLaws
 pub mod MergeLaws

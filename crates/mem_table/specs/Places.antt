@@ -7,7 +7,9 @@ use Rattle.std.specs.Ordering.{on}
 use Rattle.mvcc_key.specs.Lists.{in_order}
 use Rattle.mvcc_key.specs.Order.{Name, name_cmp}
 use Rattle.mvcc_key.specs.Encoded.{name_in}
+use Rattle.mvcc_key.specs.Points.{Point}
 use Rattle.mvcc_key.specs.declared.batch.PointOp.{PointOp}
+use Rattle.mem_table.specs.declared.place.MemPlace.{MemPlace}
 
 -- the name of an operation
 abbrev pub name_of_op : PointOp → Name
@@ -21,14 +23,26 @@ op_cmp = on name_of_op name_cmp
 abbrev pub newest_ops : List PointOp → List PointOp → List PointOp
 newest_ops newer older = in_order op_cmp (newer ++ older)
 
--- the operations from `low` up to `high`, one or none, are those of the name: those before are below it, those behind above
-pub record IsRangeOf (name : Name) (ops : List PointOp) (low high : ℕ) : Type 0 where
+-- of things that have names, those from `low` up to `high`, one or none, have this one: those before are below it, those behind above
+pub record IsRangeBy (X : Type 0) (named : X → Name) (name : Name) (xs : List X) (low high : ℕ) : Type 0 where
   pub ordered : low ≤ high
   pub one : high ≤ low + 1
-  pub within : high ≤ length ops
-  pub below : AllByRecursion (λ op. name_cmp (name_of_op op) name ≡ Less) (take low ops)
-  pub tied : low < high → (op : PointOp) → slice_get ops low ≡ Some op → name_cmp name (name_of_op op) ≡ Equal
-  pub above : AllByRecursion (λ op. name_cmp name (name_of_op op) ≡ Less) (drop high ops)
+  pub within : high ≤ length xs
+  pub below : AllByRecursion (λ x. name_cmp (named x) name ≡ Less) (take low xs)
+  pub tied : low < high → (x : X) → slice_get xs low ≡ Some x → name_cmp name (named x) ≡ Equal
+  pub above : AllByRecursion (λ x. name_cmp name (named x) ≡ Less) (drop high xs)
+
+-- the range of a name among operations
+abbrev pub IsRangeOf : Name → List PointOp → ℕ → ℕ → Type 0
+IsRangeOf name ops low high = IsRangeBy PointOp name_of_op name ops low high
+
+-- the place of a name among points
+abbrev pub IsPlaceOf : Name → List Point → MemPlace → Type 0
+IsPlaceOf name points place = IsRangeBy Point (λ p. p.name) name points place.low place.behind
+
+-- the place of some name among points
+abbrev pub IsPlace : List Point → MemPlace → Type 0
+IsPlace points place = (name : Name) × IsPlaceOf name points place
 
 -- an operation under no name, read where a number has none
 abbrev pub no_op : PointOp

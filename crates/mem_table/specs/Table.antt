@@ -1,9 +1,10 @@
 -- What a memory table holds.
-use Rattle.std.specs.Prelude.{◌≡◌, List, [], ◌++◌, find, Option, Some, None}
+use Rattle.std.specs.Prelude.{◌≡◌, List, [], ◌∷◌, ◌++◌, find, Option, Some, None}
 use Rattle.mvcc_key.specs.Lists.{in_order}
 use Rattle.mvcc_key.specs.Order.{Name, is_same_name}
 use Rattle.mvcc_key.specs.Points.{Point, point_cmp}
 use Rattle.mvcc_key.specs.SeenPoint.{points_of}
+use Rattle.mvcc_key.specs.declared.batch.PointOp.{PointOp}
 use Rattle.mvcc_key.specs.declared.batch.RangeOp.{RangeOp}
 use Rattle.mvcc_key.specs.declared.batch.Batch.{Batch}
 
@@ -19,6 +20,10 @@ empty_table = record { points = []; ranges = [] }
 -- the newest state of each name, in order; of two points with one name the first is the newer
 abbrev pub newest_points : List Point → List Point
 newest_points = in_order point_cmp
+
+-- a batch of one operation
+abbrev pub batch_of_one : PointOp → Batch
+batch_of_one op = record { points = op ∷ []; ranges = [] }
 
 -- the table after a batch
 abbrev pub after_batch : Batch → Table → Table

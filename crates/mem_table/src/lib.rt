@@ -6,6 +6,7 @@ mod place;
 mod sorted;
 mod table;
 
+pub use place::MemPlace;
 pub use sorted::SortedOps;
 pub use table::{MemCursor, MemTable};
 

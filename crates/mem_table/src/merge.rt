@@ -1,7 +1,8 @@
 //! Newer operations merged into older ones, in place.
 ghost use Rattle.std.specs.Prelude.{ℕ, ◌≡◌, ◌≤◌, ◌<◌, ◌+◌, ◌-◌, [], ◌∷◌, ◌++◌, ◌^◌, length, take, drop, slice_range, slice_get, Some, OnOk, OnErr, vec_len, vec_capacity};
+ghost use Rattle.mvcc_key.specs.Encoded.{name_in};
 ghost use Rattle.mem_table.specs.Entries.{AreEntries};
-ghost use Rattle.mem_table.specs.Places.{newest_ops, listed, AreNumbersOf, IsStored};
+ghost use Rattle.mem_table.specs.Places.{newest_ops, listed, AreNumbersOf, IsRangeOf, IsStored};
 
 use crate::place::range_of;
 use mvcc_key::{OutOfMemory, PointOp};
@@ -41,7 +42,7 @@ pub(crate) fn merge(
     Ok(())
 }
 
-/// Merges one newer operation into the older ones, with its name sought once and the numbers moved in one piece.
+/// Merges one newer operation into the older ones, with its name sought once.
 fn merge_one(ops: &mut Vec<PointOp>, order: &mut Vec<u32>, op: PointOp) -> Result<(), OutOfMemory>
     requires count { vec_len order.old ≡ vec_len ops.old }
     requires numbers { AreNumbersOf ops.old.items order.old.items }
@@ -53,6 +54,27 @@ fn merge_one(ops: &mut Vec<PointOp>, order: &mut Vec<u32>, op: PointOp) -> Resul
     ensures err { OnErr result (listed ops.new.items order.new.items ≡ listed ops.old.items order.old.items) }
 {
     let (low, behind) = range_of(ops, order, op.key.as_slice());
+    put_one(ops, order, low, behind, op)
+}
+
+/// Puts one newer operation at the range of its name among the older ones, with the numbers moved in one piece. The memory is
+/// taken before the first change.
+pub(crate) fn put_one(
+    ops: &mut Vec<PointOp>,
+    order: &mut Vec<u32>,
+    low: usize,
+    behind: usize,
+    op: PointOp,
+) -> Result<(), OutOfMemory>
+    requires count { vec_len order.old ≡ vec_len ops.old }
+    requires numbers { AreNumbersOf ops.old.items order.old.items }
+    requires older { AreEntries (listed ops.old.items order.old.items) }
+    requires range { IsRangeOf (name_in op.key) (listed ops.old.items order.old.items) low behind }
+    ensures count { vec_len order.new ≡ vec_len ops.new }
+    ensures numbers { AreNumbersOf ops.new.items order.new.items }
+    ensures ok { OnOk result (listed ops.new.items order.new.items ≡ newest_ops (op ∷ []) (listed ops.old.items order.old.items)) }
+    ensures err { OnErr result (listed ops.new.items order.new.items ≡ listed ops.old.items order.old.items) }
+{
     let is_new = low == behind;
     if is_new {
         if ops.len() >= MAX_NAMES {

@@ -1,4 +1,4 @@
-//! The place of a name among operations in order.
+//! Places of names among operations in order.
 ghost use Rattle.std.specs.Prelude.{◌≡◌, ◌<◌, length, slice_get, Some, IsOk};
 ghost use Rattle.mvcc_key.specs.KeyFormat.{name_of};
 ghost use Rattle.mvcc_key.specs.Encoded.{name_in};
@@ -7,6 +7,15 @@ ghost use Rattle.mem_table.specs.Places.{listed, AreNumbersOf, IsRangeOf};
 
 use mvcc_key::{PointOp, cmp_encoded};
 use std::cmp::Ordering;
+
+/// Where a name stands in a memory table, or would stand: what [`find`](crate::MemTable::find) answers. It holds until the table
+/// takes a new name up.
+#[derive(Clone, Copy, Debug)]
+pub struct MemPlace {
+    pub(crate) low: usize,
+    /// One more than `low` where the name is known, and else `low`.
+    pub(crate) behind: usize,
+}
 
 /// The operation at a place of the order.
 pub(crate) fn op_at<'a>(ops: &'a [PointOp], order: &[u32], place: usize) -> &'a PointOp

@@ -1,12 +1,17 @@
 //! Point operations in order.
-ghost use Rattle.std.specs.Prelude.{◌≡◌, ◌↔◌, [], OnOk, OnErr, IsTrue, vec_len};
+ghost use Rattle.std.specs.Prelude.{◌≡◌, ◌↔◌, [], ◌∷◌, OnOk, OnErr, IsOk, IsTrue, vec_len};
+ghost use Rattle.std.specs.Option.{option_map};
+ghost use Rattle.mvcc_key.specs.Order.{Name};
+ghost use Rattle.mvcc_key.specs.KeyFormat.{name_of};
+ghost use Rattle.mvcc_key.specs.Encoded.{name_in};
 ghost use Rattle.mvcc_key.specs.Points.{AreEncodable};
 ghost use Rattle.mvcc_key.specs.SeenPoint.{points_of};
-ghost use Rattle.mem_table.specs.Entries.{AreEntries};
+ghost use Rattle.mem_table.specs.Entries.{AreEntries, IsStorable};
 ghost use Rattle.mem_table.specs.Places.{listed, AreNumbersOf};
 
-use crate::merge::merge;
-use crate::place::op_at;
+use crate::MemPlace;
+use crate::merge::{merge, put_one};
+use crate::place::{op_at, range_of};
 use mvcc_key::{OutOfMemory, PointOp, SortedPairs, head_in};
 use std::alloc::Global;
 
@@ -28,8 +33,9 @@ pub struct SortedOps {
 }
 
 impl SortedOps {
-    ghost use Rattle.mem_table.specs.Places.{newest_ops};
-    ghost use Rattle.mem_table.specs.Seen.{ops_held};
+    ghost use Rattle.mem_table.specs.Places.{newest_ops, IsPlaceOf, IsPlace};
+    ghost use Rattle.mem_table.specs.Seen.{ops_held, points_held};
+    ghost use Rattle.mem_table.specs.Table.{state_of};
 
     /// No operations. This takes no memory.
     pub(crate) fn new(alloc: Global) -> SortedOps
@@ -55,6 +61,38 @@ impl SortedOps {
         ensures err { OnErr result (ops_held self.new ≡ ops_held self.old) }
     {
         merge(&mut self.ops, &mut self.order, newer)
+    }
+
+    /// The place of the name with this encoded key.
+    pub(crate) fn find(&self, key: &[u8]) -> MemPlace
+        requires { IsOk (name_of key.now) }
+        ensures { IsPlaceOf (name_in key.now) (points_held self.now) result }
+    {
+        let (low, behind) = range_of(&self.ops, &self.order, key);
+        MemPlace { low, behind }
+    }
+
+    /// What is known of the name at a place: nothing, that it is cleared, or its value.
+    pub(crate) fn value_at(&self, place: MemPlace) -> Option<Option<&[u8]>>
+        requires { IsPlace (points_held self.now) place }
+        ensures { (name : Name) → IsPlaceOf name (points_held self.now) place
+            → option_map (option_map (λ v. v.now)) result ≡ option_map (λ p. p.value) (state_of name (points_held self.now)) }
+    {
+        if place.low < place.behind {
+            Some(self.value(place.low))
+        } else {
+            None
+        }
+    }
+
+    /// Takes one newer operation up at the place of its name.
+    pub(crate) fn put_at(&mut self, place: MemPlace, op: PointOp) -> Result<(), OutOfMemory>
+        requires op { IsStorable op }
+        requires place { IsPlaceOf (name_in op.key) (points_held self.old) place }
+        ensures ok { OnOk result (ops_held self.new ≡ newest_ops (op ∷ []) (ops_held self.old)) }
+        ensures err { OnErr result (ops_held self.new ≡ ops_held self.old) }
+    {
+        put_one(&mut self.ops, &mut self.order, place.low, place.behind, op)
     }
 }
 

@@ -1,11 +1,17 @@
 //! The memory table.
-ghost use Rattle.std.specs.Prelude.{◌≡◌, ◌↔◌, [], length, All, OnOk, OnErr, IsTrue};
+ghost use Rattle.std.specs.Prelude.{◌≡◌, ◌↔◌, [], ◌∷◌, length, All, OnOk, OnErr, IsOk, IsTrue};
+ghost use Rattle.std.specs.Option.{option_map};
+ghost use Rattle.mvcc_key.specs.Order.{Name};
+ghost use Rattle.mvcc_key.specs.KeyFormat.{name_of};
+ghost use Rattle.mvcc_key.specs.Encoded.{name_in};
+ghost use Rattle.mvcc_key.specs.Points.{IsRising};
 ghost use Rattle.mvcc_key.specs.SeenPoint.{points_of};
-ghost use Rattle.mem_table.specs.Entries.{IsBatch, IsStoredPoint};
-ghost use Rattle.mem_table.specs.Table.{empty_table, after_batch, ShowsNewest};
+ghost use Rattle.mem_table.specs.Entries.{IsBatch, IsStorable, IsStoredPoint};
+ghost use Rattle.mem_table.specs.Places.{IsPlaceOf, IsPlace};
+ghost use Rattle.mem_table.specs.Table.{empty_table, batch_of_one, after_batch, state_of, ShowsNewest};
 
-use crate::SortedOps;
-use mvcc_key::{Batch, Cursor, OutOfMemory, PairsCursor, RangeOp, SortedPairs};
+use crate::{MemPlace, SortedOps};
+use mvcc_key::{Batch, Cursor, OutOfMemory, PairsCursor, PointOp, RangeOp, SortedPairs};
 use std::alloc::Global;
 use std::marker::Model;
 
@@ -51,6 +57,38 @@ impl MemTable {
         ensures err { OnErr result (self.new ≡ self.old) }
     {
         self.points.apply(batch.points.into_vec())
+    }
+
+    /// Where the name with this encoded key stands, found by halving. The place is good for [`value_at`](MemTable::value_at)
+    /// and then for [`put_at`](MemTable::put_at), so that the name is sought once.
+    pub fn find(&self, key: &[u8]) -> MemPlace
+        requires { IsOk (name_of key.now) }
+        ensures place { IsPlaceOf (name_in key.now) self.now.points result }
+        ensures rising { IsRising self.now.points }
+    {
+        self.points.find(key)
+    }
+
+    /// What the table knows of the name at a place. `None` where it knows nothing of it, and `Some(None)` where it is cleared.
+    pub fn value_at(&self, place: MemPlace) -> Option<Option<&[u8]>>
+        requires { IsPlace self.now.points place }
+        ensures { (name : Name) → IsPlaceOf name self.now.points place
+            → option_map (option_map (λ v. v.now)) result ≡ option_map (λ p. p.value) (state_of name self.now.points) }
+    {
+        self.points.value_at(place)
+    }
+
+    /// Takes one operation up at the place of its name or, where memory is wanting, not at all. This is what
+    /// [`apply`](MemTable::apply) does with a batch of that operation, without the search.
+    pub fn put_at(&mut self, place: MemPlace, op: PointOp) -> Result<(), OutOfMemory>
+        requires op { IsStorable op }
+        requires place { IsPlaceOf (name_in op.key) self.old.points place }
+        ensures ok { OnOk result (self.new ≡ after_batch (batch_of_one op) self.old) }
+        ensures newest { OnOk result
+            (ShowsNewest (points_of (op ∷ [])) self.old.points self.new.points) }
+        ensures err { OnErr result (self.new ≡ self.old) }
+    {
+        self.points.put_at(place, op)
     }
 
     /// How many points there are, cleared names among them.

@@ -7,7 +7,7 @@ use super::*;
 use mvcc_key::{
     Batch, Bytes, Cursor, OutOfMemory, PointOp, Steps, Timestamp, decode_key, encode_key,
 };
-use rising::Rising;
+use rising::{Rising, is_storable};
 use std::alloc::Global;
 use std::marker::Brand;
 use std::sync::ledger::{Blank, Ledger};
@@ -50,6 +50,25 @@ fn table_of(alloc: Global, batches: &[&[State]]) -> Result<MemTable, OutOfMemory
         table.apply(batch_of(alloc, states)?)?;
     }
     Ok(table)
+}
+
+/// The same table, with each state put at its place by itself.
+fn placed(alloc: Global, batches: &[&[State]]) -> Result<MemTable, OutOfMemory> {
+    let mut table = MemTable::new(alloc);
+    for states in batches {
+        for state in *states {
+            put(&mut table, op_of(alloc, *state)?)?;
+        }
+    }
+    Ok(table)
+}
+
+fn put(table: &mut MemTable, op: PointOp) -> Result<(), OutOfMemory> {
+    if !is_storable(&op) {
+        return Ok(());
+    }
+    let place = table.find(op.key.as_slice());
+    table.put_at(place, op)
 }
 
 fn is_at<C: Cursor>(alloc: Global, cursor: &C, state: Option<State>) -> Result<bool, OutOfMemory> {
@@ -190,6 +209,8 @@ fn batches_are_one_table(rt: HostRuntime) -> Result<(), Fail> {
         assert_eq!(rt; table.is_empty(), states.is_empty());
         assert!(rt; table.range_ops().is_empty());
         assert!(rt; walks::<Brand>(rt.alloc(), &table, states, Blank::new(1))?);
+        let placed = placed(rt.alloc(), batches)?;
+        assert!(rt; walks::<Brand>(rt.alloc(), &placed, states, Blank::new(1))?);
     }
     Ok(())
 }
@@ -217,6 +238,38 @@ fn finds<L: Ledger>(
     let found = is_at(alloc, &cursor, from)?;
     cursor.seek_lt(key.as_slice(), &mut steps);
     Ok(is_at(alloc, &cursor, below)? && found)
+}
+
+/// Whether this is known of a name.
+fn knows(
+    alloc: Global,
+    table: &MemTable,
+    sought: (&[u8], u64),
+    known: Option<Option<&[u8]>>,
+) -> Result<bool, OutOfMemory> {
+    let key = key_of(alloc, sought.0, sought.1)?;
+    if decode_key(key.as_slice()).is_err() {
+        return Ok(false);
+    }
+    Ok(table.value_at(table.find(key.as_slice())) == known)
+}
+
+#[test]
+fn names_are_known(rt: HostRuntime) -> Result<(), Fail> {
+    let cleared: &[State] = &[(b"a\x00", 2, None), (b"b", 2, None)];
+    let table = table_of(rt.alloc(), &[&ROW, cleared])?;
+    let cases: [(&[u8], u64, Option<Option<&[u8]>>); 6] = [
+        (b"a", 1_000_000_000, Some(Some(b"abc"))),
+        (b"a", 2, None),
+        (b"a\x00", 2, Some(None)),
+        (b"a\x00\x01", 1_000_000_000, Some(Some(b"abc"))),
+        (b"b", 2, Some(None)),
+        (b"c", 2, None),
+    ];
+    for (key, wall, known) in cases {
+        assert!(rt; knows(rt.alloc(), &table, (key, wall), known)?);
+    }
+    Ok(())
 }
 
 #[test]

@@ -47,7 +47,7 @@ impl Rising {
     }
 }
 
-fn is_storable(op: &PointOp) -> bool
+pub fn is_storable(op: &PointOp) -> bool
     ensures { OnTrue result (IsStorable op.now) }
 {
     if let Some(value) = &op.value {

@@ -1,0 +1,37 @@
+-- A memory table after newer operations.
+use Rattle.std.proofs.Common.{◌≡◌, List, [], ◌++◌, sym, ap, subst, ◌∙◌, append-nil}
+use Rattle.mvcc_key.specs.SeenPoint.{points_of}
+use Rattle.mvcc_key.specs.declared.batch.PointOp.{PointOp}
+use Rattle.mvcc_key.specs.declared.batch.RangeOp.{RangeOp}
+use Rattle.mvcc_key.specs.declared.batch.Batch.{Batch}
+use Rattle.mem_table.specs.Places.{newest_ops}
+use Rattle.mem_table.specs.Table.{Table, newest_points, after_batch, ShowsNewest}
+use Rattle.mem_table.proofs.EntryLaws.{points-newest}
+use Rattle.mem_table.proofs.StateLaws.{shows-newest}
+
+-- a table of operations
+abbrev pub table_of : List PointOp → List RangeOp → Table
+table_of ops ranges = record { points = points_of ops; ranges = ranges }
+
+points-after : (batch : Batch) (now newer older : List PointOp) (ranges : List RangeOp) (old : Table) → now ≡ newest_ops newer older → newer ≡ batch.points
+    → table_of older ranges ≡ old → points_of now ≡ newest_points (points_of batch.points ++ old.points)
+points-after batch now newer older ranges old is newer_is old_is =
+    ap points_of is ∙ points-newest newer older
+    ∙ ap (λ (ops : List PointOp). newest_points (points_of ops ++ points_of older)) newer_is
+    ∙ ap (λ (t : Table). newest_points (points_of batch.points ++ t.points)) old_is
+
+-- the table after the batch of these operations
+pub table-after : (batch : Batch) (now newer older : List PointOp) (ranges : List RangeOp) (old : Table) → now ≡ newest_ops newer older → newer ≡ batch.points
+    → batch.ranges ≡ [] → table_of older ranges ≡ old → table_of now ranges ≡ after_batch batch old
+table-after batch now newer older ranges old is newer_is none old_is =
+    let points = points-after batch now newer older ranges old is newer_is old_is in
+    let same : ranges ≡ old.ranges ++ batch.ranges =
+    ap (λ (t : Table). t.ranges) old_is ∙ sym (append-nil old.ranges) ∙ ap (λ (rs : List RangeOp). old.ranges ++ rs) (sym none) in
+    λ i. record { points = points i; ranges = same i }
+
+-- and what is known then
+pub newest-after : (batch : Batch) (now newer older : List PointOp) (ranges : List RangeOp) (old : Table) → now ≡ newest_ops newer older → newer ≡ batch.points
+    → table_of older ranges ≡ old → ShowsNewest (points_of batch.points) old.points (points_of now)
+newest-after batch now newer older ranges old is newer_is old_is =
+    subst (ShowsNewest (points_of batch.points) old.points) (sym (points-after batch now newer older ranges old is newer_is old_is))
+    (shows-newest (points_of batch.points) old.points)
