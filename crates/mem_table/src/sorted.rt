@@ -114,7 +114,8 @@ impl SortedPairs for SortedOps {
     }
 
     fn head(&self, index: usize) -> u64 {
-        head_in(op_at(&self.ops, &self.order, index).key.as_slice())
+        let op = op_at(&self.ops, &self.order, index);
+        head_in(op.key.as_slice())
     }
 
     fn value(&self, index: usize) -> Option<&[u8]> {
