@@ -2,10 +2,10 @@
 use Rattle.std.proofs.Common.{◌≡◌, Bool, true, false, cond, List, [], ◌∷◌, ◌++◌, refl, sym, ap, subst, ◌∙◌}
 use Rattle.std.specs.Prelude.{filter}
 use Rattle.std.specs.List.Sorted.{IsStrictlySortedBy}
-use Rattle.mvcc_key.specs.Points.{Point, IsRising}
-use Rattle.mvcc_key.proofs.PointLaws.{point_cmp-total, sorted-rising}
+use Rattle.mvcc_key.specs.Points.{Point, point_cmp, IsRising}
+use Rattle.mvcc_key.proofs.PointLaws.{sorted-rising}
 use Rattle.mem_table.specs.Table.{newest_points}
-use Rattle.mem_table.proofs.OrderedLaws.{in_order-sorted_list}
+use Rattle.mvcc_key.proofs.SortedLaws.{in_order-same}
 use Rattle.lsm_store.specs.Parts.{after_batch}
 use Rattle.lsm_store.specs.Shown.{shown, with_batch, parts_of, stage_of}
 use Rattle.lsm_store.specs.Changing.{changes_points}
@@ -47,7 +47,7 @@ parts-taken p b table now runs old is taken now_is old_is = parts-kept p b true 
 
 -- a table with nothing newer stays as it is
 table-left : (table : List Point) → IsRising table → table ≡ newest_points ([] ++ table)
-table-left table rising = sym (in_order-sorted_list point_cmp-total table (sorted-rising table rising))
+table-left table rising = sym (in_order-same point_cmp table (sorted-rising table rising))
 
 -- where it changes nothing that is seen
 pub shown-left : (p : Point) (b : Bool) (table : List Point) (runs old : List (List Point)) → b ≡ changes_points (shown (table ∷ runs)) p → b ≡ false

@@ -1,22 +1,16 @@
 -- What the timestamps of a run tell of the names that it sets.
-use Rattle.std.proofs.Common.{◌≡◌, ℕ, Bool, true, false, cond, List, [], ◌∷◌, ◌++◌, refl, sym, ap, subst, ◌∙◌, arith}
-use Rattle.std.specs.Prelude.{Some, None, All, not, is_some}
+use Rattle.std.proofs.Common.{◌≡◌, ℕ, Bool, true, false, cond, List, [], ◌∷◌, ◌++◌, refl, sym, ap, subst, ◌∙◌}
+use Rattle.std.specs.Prelude.{Some, None, All}
 use Rattle.std.specs.List.{filter_map, cons_option}
 use Rattle.std.specs.declared.option.Option.{Option}
-use Rattle.std.specs.declared.cmp.Ordering.{Ordering}
-use Rattle.std.specs.declared.cmp.Ordering.TheVariants.{Less, Equal, Greater}
-use Rattle.std.specs.Ordering.{is_lt, is_le, ordering_reverse}
-use Rattle.std.proofs.lemmas.Bool.Decides.{nat_tests}
 use Rattle.std.proofs.lemmas.List.Concat.{flat_map-append, flat_map-cons}
 use Rattle.std.proofs.lemmas.List.Elements.{All-head, All-tail}
-use Rattle.mvcc_key.specs.Order.{Timestamp, Name, no_time, is_no_time, is_up_to, is_before, time_cmp, is_same_name}
+use Rattle.mvcc_key.specs.Order.{Timestamp, Name, is_no_time, is_up_to, is_same_name}
 use Rattle.mvcc_key.specs.Points.{Point}
-use Rattle.mvcc_key.proofs.OrderLaws.{time_cmp-total}
 use Rattle.mem_table.specs.Table.{state_of}
 use Rattle.merge_cursor.proofs.OrderLaws.{one_name}
 use Rattle.merge_cursor.specs.Merged.{joined}
 use Rattle.run_block.specs.TimeSpan.{point_time}
-use Rattle.lsm_store.specs.Changing.{is_same_value, is_change}
 use Rattle.lsm_store.proofs.KnownLaws.{newer, known-append}
 use Rattle.lsm_store.proofs.ApplyLaws.{value_in}
 

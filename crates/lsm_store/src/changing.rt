@@ -44,11 +44,8 @@ fn changes<L: Ledger>(table: &MemTable, runs: &[Run], op: &PointOp, blank: Blank
     ensures { let points = shown (table.now.points ∷ map (λ r. r.points) runs.now) in
         result ≡ changes_points points (point_of op.now) }
 {
-    let mut steps = Steps::<L>::new(blank);
-    match changes_part(&mut table.cursor(), op, &mut steps) {
-        Some(change) => change,
-        None => changes_runs(runs, op, &mut steps),
-    }
+    let place = table.find(op.key.as_slice());
+    changes_at::<L>(table, place, runs, op, blank)
 }
 
 /// The same for an operation whose name has this place in the memory table, by which it is not sought there again.

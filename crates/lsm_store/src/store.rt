@@ -13,7 +13,7 @@ use crate::{PartCursor, PartShape, StoreCursor};
 use mem_table::MemTable;
 use merge_cursor::{MergeCursor, VisibleCursor};
 use mvcc_key::{Batch, Cursor, Items, OutOfMemory, PointOp};
-use run_block::{Run, collect};
+use run_block::{Room, Run, collect};
 use std::alloc::Global;
 use std::marker::{Brand, Model};
 use std::sync::ledger::Blank;
@@ -96,7 +96,9 @@ impl Store {
         if self.table.is_empty() {
             return Ok(());
         }
-        let room = entries_len(&mut self.table.cursor(), self.table.len());
+        let points = self.table.len();
+        let bytes = entries_len(&mut self.table.cursor(), points);
+        let room = Room { points, bytes };
         let run = collect(self.alloc, &mut self.table.cursor(), room)?;
         self.runs.insert(0, run)?;
         self.table = MemTable::new(self.alloc);

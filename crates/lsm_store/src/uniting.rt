@@ -7,7 +7,7 @@ ghost use Rattle.merge_cursor.specs.Visible.{visible};
 use crate::PartCursor;
 use merge_cursor::{MergeCursor, VisibleCursor};
 use mvcc_key::{Cursor, OutOfMemory};
-use run_block::{Run, collect};
+use run_block::{Room, Run, collect};
 use std::alloc::Global;
 
 /// The run of what these runs show together, from the newest to the oldest: of each name the newest run's pair, and none where
@@ -16,7 +16,7 @@ pub(crate) fn unite(alloc: Global, runs: &[Run]) -> Result<Run, OutOfMemory>
     ensures { IfOk result (λ run. run ≡ record { points = visible (merged (map (λ r. r.points) runs.now)); ranges = [] }) }
 {
     let mut cursor = VisibleCursor::of(MergeCursor::over(cursors_over(alloc, runs)?));
-    collect(alloc, &mut cursor, bytes_of(runs))
+    collect(alloc, &mut cursor, room_of(runs))
 }
 
 /// The cursors of the runs, before their first points.
@@ -32,11 +32,15 @@ fn cursors_over<'a>(alloc: Global, runs: &'a [Run]) -> Result<Vec<PartCursor<'a>
     Ok(cursors)
 }
 
-/// How many bytes the runs have together, or the greatest number.
-fn bytes_of(runs: &[Run]) -> usize {
-    let mut total: usize = 0;
+/// The room that the runs have together, or the greatest there is.
+fn room_of(runs: &[Run]) -> Room {
+    let mut room = Room {
+        points: 0,
+        bytes: 0,
+    };
     for run in runs {
-        total = total.saturating_add(run.bytes().len());
+        room.points = room.points.saturating_add(run.len());
+        room.bytes = room.bytes.saturating_add(run.bytes().len());
     }
-    total
+    room
 }

@@ -9,9 +9,10 @@ use Rattle.std.proofs.lemmas.Option.{slice_get_within}
 use Rattle.mvcc_key.specs.Encoded.{name_in}
 use Rattle.mvcc_key.specs.declared.batch.PointOp.{PointOp}
 use Rattle.mem_table.specs.Entries.{AreEntries}
-use Rattle.mem_table.specs.Places.{newest_ops, listed, AreNumbersOf, IsStored, IsRangeOf}
-use Rattle.mem_table.proofs.OrderedLaws.{each_front, in_order-sorted_list}
-use Rattle.mem_table.proofs.EntryLaws.{op_cmp-total, each_of_all, sorted-entries, entries-take, entries-front}
+use Rattle.mem_table.specs.Places.{op_cmp, newest_ops, listed, AreNumbersOf, IsStored, IsRangeOf}
+use Rattle.mem_table.proofs.OrderedLaws.{each_front}
+use Rattle.mvcc_key.proofs.SortedLaws.{in_order-same}
+use Rattle.mem_table.proofs.EntryLaws.{each_of_all, sorted-entries, entries-take, entries-front}
 use Rattle.mem_table.proofs.StepLaws.{IsStep, step-done}
 use Rattle.mem_table.proofs.NumberLaws.{AreApart, IsAmong, among-known, among-new, each_back, each_middle, front-parts, middle-one}
 use Rattle.mem_table.proofs.ListedLaws.{length-listed, step-listed, take-listed, drop-listed, range-listed, listed-kept, listed-here, apart-entries}
@@ -203,7 +204,7 @@ pub record IsMerged (ops : List PointOp) (order : List ℕ) (whole : List PointO
 pub merging-last : (ops : List PointOp) (order : List ℕ) (high end : ℕ) (whole : List PointOp) → IsMerging [] ops order high end whole → IsMerged ops order whole
 merging-last ops order high end whole m =
     let front : List PointOp = take high (listed ops order) in
-    let left : newest_ops [] front ≡ front = in_order-sorted_list op_cmp-total front (sorted-entries front m.older) in
+    let left : newest_ops [] front ≡ front = in_order-same op_cmp front (sorted-entries front m.older) in
     let long = length-listed ops order in
     let ordered = m.ordered in
     let within = m.within in

@@ -10,7 +10,8 @@ use Rattle.mvcc_key.specs.Encoded.{name_in}
 use Rattle.mvcc_key.specs.declared.batch.PointOp.{PointOp}
 use Rattle.mem_table.specs.Entries.{AreEntries}
 use Rattle.mem_table.specs.Places.{op_cmp, newest_ops, listed, AreNumbersOf, IsStored, IsRangeOf}
-use Rattle.mem_table.proofs.OrderedLaws.{each_front, in_order-sorted_list, put-range}
+use Rattle.mem_table.proofs.OrderedLaws.{each_front, put-range}
+use Rattle.mvcc_key.proofs.SortedLaws.{in_order-same}
 use Rattle.mem_table.proofs.EntryLaws.{op_cmp-total, each_of_all, sorted-entries}
 use Rattle.mem_table.proofs.RangeLaws.{range-op}
 use Rattle.mem_table.proofs.NumberLaws.{AreApart, IsAmong, among-known, among-new, each_back}
@@ -20,7 +21,7 @@ use Rattle.mem_table.proofs.ListedLaws.{take-listed, drop-listed, listed-kept, l
 newest-one : (op : PointOp) (older : List PointOp) (low behind : ℕ) → AreEntries older → IsRangeOf (name_in op.key) older low behind
     → newest_ops (op ∷ []) older ≡ take low older ++ op ∷ drop behind older
 newest-one op older low behind o range =
-    ap (put_in_order op_cmp op) (in_order-sorted_list op_cmp-total older (sorted-entries older o))
+    ap (put_in_order op_cmp op) (in_order-same op_cmp older (sorted-entries older o))
     ∙ put-range op_cmp-total op older low behind (range-op op older low behind range)
 
 -- the operation stands under its number, and the others stay

@@ -9,6 +9,7 @@ use Rattle.std.specs.Ordering.{match_ordering, ordering_reverse}
 use Rattle.std.specs.Cmp.{IsTotalOrder}
 use Rattle.std.proofs.lemmas.Cmp.{alike_right}
 use Rattle.mvcc_key.specs.Lists.{put_in_order, in_order}
+use Rattle.mvcc_key.proofs.SortedLaws.{put_in_order-first, in_order-same}
 
 -- ---- parts of a list
 
@@ -104,17 +105,6 @@ module _ {X : Type 0} {cmp : X → X → Ordering} (total : IsTotalOrder cmp) wh
 
   -- ---- merging
 
-  -- an element below all stands first
-  put_first : (x : X) (ys : List X) → AllByRecursion (λ z. cmp x z ≡ Less) ys → put_in_order cmp x ys ≡ x ∷ ys
-  put_first x [] a = refl
-  put_first x (y ∷ ys) a = rw a.0 refl
-
-  -- a list in order stays as it is
-  pub in_order-sorted_list : (xs : List X) → IsStrictlySortedBy cmp xs → in_order cmp xs ≡ xs
-  unfolding IsStrictlySortedBy
-  in_order-sorted_list [] s = refl
-  in_order-sorted_list (x ∷ xs) s = ap (put_in_order cmp x) (in_order-sorted_list xs s.1) ∙ put_first x xs s.0
-
   -- an element takes its place before one that is above it
   put-before : (x z : X) (us vs : List X) → cmp x z ≡ Less → put_in_order cmp x (us ++ z ∷ vs) ≡ put_in_order cmp x us ++ z ∷ vs
   put-before x z [] vs h = rw h refl
@@ -138,7 +128,7 @@ module _ {X : Type 0} {cmp : X → X → Ordering} (total : IsTotalOrder cmp) wh
 
   -- the place of one element
   pub put-range : (x : X) (xs : List X) (low high : ℕ) → IsRange x xs low high → put_in_order cmp x xs ≡ take low xs ++ x ∷ drop high xs
-  put-range x xs zero zero r = put_first x xs r.above
+  put-range x xs zero zero r = put_in_order-first cmp x xs r.above
   put-range x [] zero (suc high) r = absurd (omega (arith, r.within))
   put-range x (y ∷ ys) zero (suc zero) r = (let tied : cmp x y ≡ Equal = r.tied (omega arith) y refl in rw tied refl)
   put-range x (y ∷ ys) zero (suc (suc high)) r = absurd (omega (arith, r.one))
@@ -160,8 +150,8 @@ module _ {X : Type 0} {cmp : X → X → Ordering} (total : IsTotalOrder cmp) wh
       → IsRange x older low high → in_order cmp ((newer ++ x ∷ []) ++ older) ≡ in_order cmp (newer ++ take low older) ++ x ∷ drop high older
   unfolding IsStrictlySortedBy
   newest-last [] x older low high n o r =
-      ap (put_in_order cmp x) (in_order-sorted_list older o) ∙ put-range x older low high r
-      ∙ ap (λ (us : List X). us ++ x ∷ drop high older) (sym (in_order-sorted_list (take low older) (sorted_take cmp low older o)))
+      ap (put_in_order cmp x) (in_order-same cmp older o) ∙ put-range x older low high r
+      ∙ ap (λ (us : List X). us ++ x ∷ drop high older) (sym (in_order-same cmp (take low older) (sorted_take cmp low older o)))
   newest-last (y ∷ newer) x older low high n o r =
       ap (put_in_order cmp y) (newest-last newer x older low high n.1 o r)
       ∙ put-before y x (in_order cmp (newer ++ take low older)) (drop high older) (each_last _ newer x n.0)
@@ -193,7 +183,7 @@ module _ {X : Type 0} {cmp : X → X → Ordering} (total : IsTotalOrder cmp) wh
 
   -- newer elements take none away
   pub newest_no_shorter : (newer older : List X) → IsStrictlySortedBy cmp older → length older ≤ length (in_order cmp (newer ++ older))
-  newest_no_shorter [] older o = rw (in_order-sorted_list older o) (omega arith)
+  newest_no_shorter [] older o = rw (in_order-same cmp older o) (omega arith)
   newest_no_shorter (x ∷ newer) older o =
       let rest = newest_no_shorter newer older o in
       let more = put_no_shorter x (in_order cmp (newer ++ older)) in

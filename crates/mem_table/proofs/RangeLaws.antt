@@ -3,7 +3,6 @@ use Rattle.std.proofs.Common.{◌≡◌, ℕ, ◌+◌, ◌<◌, ◌≤◌, List,
 use Rattle.std.specs.Prelude.{slice_get, Some, None}
 use Rattle.std.specs.List.{AllByRecursion}
 use Rattle.std.specs.declared.cmp.Ordering.TheVariants.{Less, Equal}
-use Rattle.std.proofs.lemmas.List.{drop_all}
 use Rattle.mvcc_key.specs.Order.{name_cmp}
 use Rattle.mvcc_key.specs.Encoded.{name_in}
 use Rattle.mvcc_key.specs.declared.batch.PointOp.{PointOp}
@@ -22,15 +21,6 @@ pub record IsNarrowed (key : List ℕ) (ops : List PointOp) (low high : ℕ) : T
   pub within : high ≤ length ops
   pub below : AllByRecursion (λ op. name_cmp (name_of_op op) (name_in key) ≡ Less) (take low ops)
   pub above : AllByRecursion (λ op. name_cmp (name_in key) (name_of_op op) ≡ Less) (drop high ops)
-
--- before the search
-pub narrowed-first : (key : List ℕ) (ops : List PointOp) (n : ℕ) → n ≡ length ops → IsNarrowed key ops 0 n
-narrowed-first key ops n is = record {
-  ordered = omega arith;
-  within = omega arith;
-  below = tt;
-  above = rw (drop_all n ops (omega arith)) tt;
-}
 
 -- an operation below the key settles all up to it
 pub narrowed-below : (key : List ℕ) (ops : List PointOp) (low high middle : ℕ) (op : PointOp) → AreEntries ops → IsNarrowed key ops low high
@@ -63,18 +53,6 @@ range-found key ops middle op e lt at equal = record {
   tied = λ some other is. (let same : op ≡ other = (let one : Some op ≡ Some other = sym at ∙ is in cc) in rw (← same) equal);
   above = rw add-one (above_tied op_cmp-total (keyed key) op ops middle (sorted-entries ops e) at equal);
 }
-
--- there is none
-pub range-none : (key : List ℕ) (ops : List PointOp) (low high : ℕ) → IsNarrowed key ops low high → high ≤ low → IsRangeOf (name_in key) ops low low
-range-none key ops low high n done =
-    let same : high ≡ low = (let o = n.ordered in omega arith) in record {
-      ordered = omega arith;
-      one = omega arith;
-      within = (let w = n.within in omega arith);
-      below = n.below;
-      tied = λ some. absurd (omega arith);
-      above = rw (← same) n.above;
-    }
 
 -- the range of an operation's name
 pub range-op : (op : PointOp) (ops : List PointOp) (low high : ℕ) → IsRangeOf (name_in op.key) ops low high → IsRange op_cmp-total op ops low high

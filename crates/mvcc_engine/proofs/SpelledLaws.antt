@@ -79,7 +79,3 @@ module _ (key : List ℕ) (ts : Timestamp) (value : List ℕ) (held : IsSpelledA
   -- so its shape is theirs
   pub held-shape : shape_of (record { name = record { key = (name_in key).key; ts = ts }; value = value }) ≡ shape (version_of (record { name = name_in key; value = Some value }))
   held-shape = (λ i. shape_of (record { name = record { key = (name_in key).key; ts = (sym held.at) i }; value = (sym held-value) i }))
-
-  -- and the point that it is stored as is made of them
-  pub held-point : record { name = name_in key; value = Some value } ≡ point_of (version_of (record { name = name_in key; value = Some value }))
-  held-point = ap (λ b. record { name = name_in key; value = Some b }) (sym held-value)

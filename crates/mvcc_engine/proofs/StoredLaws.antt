@@ -17,7 +17,7 @@ use Rattle.mvcc_key.proofs.KeyFormatLaws.{name_of-encoded_name}
 use Rattle.mvcc_key.proofs.PointLaws.{point_cmp-total, point_at-next}
 use Rattle.merge_cursor.proofs.HeadLaws.{in_range-at}
 use Rattle.mvcc_key.specs.History.{Version, version_cmp}
-use Rattle.mem_table.proofs.OrderedLaws.{in_order-sorted_list}
+use Rattle.mvcc_key.proofs.SortedLaws.{in_order-same}
 use Rattle.merge_cursor.specs.Visible.{visible}
 use Rattle.mvcc_key.specs.Fragments.{fragments}
 use Rattle.lsm_store.specs.Parts.{after_batch}
@@ -175,7 +175,7 @@ all-put p (q ∷ qs) one rest =
 pub batch-put : (p : Point) (ps : List Point) → IsVersion p → IsStrictlySortedBy point_cmp ps → AllByRecursion IsVersion ps → with_batch (p ∷ []) ps ≡ put_in_order point_cmp p ps
 unfolding with_batch
 batch-put p ps one sorted all =
-    ap (λ (l : List Point). visible (put_in_order point_cmp p l)) (in_order-sorted_list point_cmp-total ps sorted)
+    ap (λ (l : List Point). visible (put_in_order point_cmp p l)) (in_order-same point_cmp ps sorted)
     ∙ all_set (put_in_order point_cmp p ps) (all-put p ps one all)
 
 pub versions-put : (p : Point) (ps : List Point) → versions_of (put_in_order point_cmp p ps) ≡ put_in_order version_cmp (version_of p) (versions_of ps)

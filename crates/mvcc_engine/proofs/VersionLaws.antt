@@ -123,10 +123,6 @@ less_of Less h = refl
 less_of Equal h = cc
 less_of Greater h = cc
 
--- the order of versions is that of their names
-version_cmp-total : IsTotalOrder version_cmp
-version_cmp-total = on_total version_name name_cmp-total
-
 -- of two timestamps one is up to the other where that is not before it
 pub up_to-not_before : (s t : Timestamp) → is_before s t ≡ false → is_up_to t s ≡ true
 up_to-not_before s t h = by (time_cmp s t) (time_cmp t s) (time_cmp-total.antisymm t s) h
@@ -263,12 +259,3 @@ put_in_order-place new vs place are timed is newer =
     ap (put_in_order version_cmp new) (sym (take-append-drop place vs))
     ∙ put_in_order-behind version_cmp new (take place vs) (drop place vs) (above_lower new (take place vs) is.passed)
     ∙ ap (λ l. take place vs ++ l) (first_before new (drop place vs) timed (timed-drop place vs are.timed) is.failed newer)
-
--- it is of the key
-pub version_at-key : (key : Key) (vs : List Version) (v : Version) → version_at key vs ≡ Some v → v.key ≡ key
-version_at-key key [] v is = cc
-version_at-key key (w ∷ ws) v is = by (is_same_key w.key key) refl is
-  where
-    by : (b : Bool) → is_same_key w.key key ≡ b → cond b (Some w) None ≡ Some v → v.key ≡ key
-    by true same found = let e : w ≡ v = cc in subst (λ x. x.key ≡ key) e (key_cmp-IsAntisymmetric w.key key (tied w.key key same))
-    by false same found = cc

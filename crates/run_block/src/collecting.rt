@@ -17,9 +17,18 @@ use std::alloc::Global;
 use std::marker::Brand;
 use std::sync::ledger::{Blank, Ledger};
 
+/// How much memory is taken at first for a run that is collected: a guess, which changes no promise.
+#[derive(Clone, Copy, Debug)]
+pub struct Room {
+    /// Of so many points.
+    pub points: usize,
+    /// Of so many bytes of entries.
+    pub bytes: usize,
+}
+
 /// The run of the points that a cursor shows, cleared names among them, in one pass of the cursor. Each entry is put where it
-/// stays: `room` is how many bytes are taken at first, and more is taken only where they do not suffice.
-pub fn collect<C: Cursor>(alloc: Global, cursor: &mut C, room: usize) -> Result<Run, OutOfMemory>
+/// stays, and more memory than `room` says is taken only where that does not suffice.
+pub fn collect<C: Cursor>(alloc: Global, cursor: &mut C, room: Room) -> Result<Run, OutOfMemory>
     requires start { C.place cursor.old ≡ 0 }
     requires stored { All IsStoredPoint (C.points cursor.old) }
     ensures run { IfOk result (λ run. run ≡ record { points = C.points cursor.old; ranges = [] }) }
@@ -33,7 +42,7 @@ pub fn collect<C: Cursor>(alloc: Global, cursor: &mut C, room: usize) -> Result<
 fn collected<C: Cursor, L: Ledger>(
     alloc: Global,
     cursor: &mut C,
-    room: usize,
+    room: Room,
     blank: Blank,
 ) -> Result<Run, OutOfMemory>
     requires start { C.place cursor.old ≡ 0 }
@@ -46,8 +55,8 @@ fn collected<C: Cursor, L: Ledger>(
     ensures whole { IfOk result IsRun }
 {
     let mut steps = Steps::<L>::new(blank);
-    let mut bytes = Vec::with_capacity(alloc, HEAD_LEN.saturating_add(room))?;
-    let mut index = Index::with_room(alloc, 0, 0)?;
+    let mut bytes = Vec::with_capacity(alloc, HEAD_LEN.saturating_add(room.bytes))?;
+    let mut index = Index::with_room(alloc, room.points, 0)?;
     put_head(&mut bytes, 0, 0)?;
     add_shown(&mut bytes, &mut index, cursor, &mut steps)?;
     Ok(counted_run(bytes, index))

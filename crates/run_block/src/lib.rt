@@ -20,7 +20,7 @@ mod time;
 mod write;
 
 pub use building::build;
-pub use collecting::collect;
+pub use collecting::{Room, collect};
 pub use fault::{FileKind, ParseFault, RunFault};
 pub use laws::laws_of_runs;
 pub use parsing::parse;

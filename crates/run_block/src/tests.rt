@@ -289,8 +289,13 @@ fn what_is_built_is_read_again(rt: HostRuntime) -> Result<(), Fail> {
     Ok(())
 }
 
+const NO_ROOM: Room = Room {
+    points: 0,
+    bytes: 0,
+};
+
 /// Whether the points of a table are collected to the run that is built of them, which has the bytes of the three.
-fn is_collected(alloc: Global, table: &MemTable, room: usize) -> Result<bool, OutOfMemory> {
+fn is_collected(alloc: Global, table: &MemTable, room: Room) -> Result<bool, OutOfMemory> {
     let run = collect(alloc, &mut table.cursor(), room)?;
     let times = run.time_span().map(|span| (span.0.wall(), span.1.wall()));
     Ok(run.bytes() == POINTS.as_slice() && times == Some((2, 5)))
@@ -301,10 +306,16 @@ fn a_table_is_collected(rt: HostRuntime) -> Result<(), Fail> {
     let alloc = rt.alloc();
     let mut table = MemTable::new(alloc);
     table.apply(three_points(alloc)?.into_batch(alloc))?;
-    for room in [0, 7, 84, 1000] {
-        assert!(rt; is_collected(alloc, &table, room)?, "with room {room}");
+    for (points, bytes) in [(0, 0), (1, 7), (3, 84), (100, 1000)] {
+        let room = Room { points, bytes };
+        assert!(rt;
+            is_collected(alloc, &table, room)?,
+            "with room for {points} points"
+        );
     }
-    assert!(rt; is_collected(alloc, &table, usize::MAX).is_err());
+    for (points, bytes) in [(usize::MAX, 0), (0, usize::MAX)] {
+        assert!(rt; is_collected(alloc, &table, Room { points, bytes }).is_err());
+    }
     Ok(())
 }
 
@@ -312,12 +323,12 @@ fn a_table_is_collected(rt: HostRuntime) -> Result<(), Fail> {
 fn the_points_of_a_run_are_collected_again(rt: HostRuntime) -> Result<(), Fail> {
     let alloc = rt.alloc();
     let built = parse(alloc, BUILT)?;
-    let run = collect(alloc, &mut built.cursor(), 0)?;
+    let run = collect(alloc, &mut built.cursor(), NO_ROOM)?;
     assert_eq!(rt; run.bytes(), POINTS.as_slice());
     assert!(rt; walks::<Brand>(&run, &STATES, Blank::new(1)));
     let empty = parse(alloc, NONE)?;
     assert_eq!(rt;
-        collect(alloc, &mut empty.cursor(), 0)?.bytes(),
+        collect(alloc, &mut empty.cursor(), NO_ROOM)?.bytes(),
         NONE.as_slice()
     );
     Ok(())

@@ -2,9 +2,9 @@ use Rattle.std.proofs.Common.{List, ◌≡◌, ◌++◌, ◌∷◌, [], length, 
 use Rattle.std.proofs.lemmas.List.{nil_from_length, length-take-le}
 use Rattle.mvcc_key.specs.declared.batch.PointOp.{PointOp}
 use Rattle.mem_table.specs.Entries.{AreEntries}
-use Rattle.mem_table.specs.Places.{newest_ops, listed, AreNumbersOf}
-use Rattle.mem_table.proofs.OrderedLaws.{in_order-sorted_list}
-use Rattle.mem_table.proofs.EntryLaws.{op_cmp-total, sorted-entries, entries-take, entries-front}
+use Rattle.mem_table.specs.Places.{op_cmp, newest_ops, listed, AreNumbersOf}
+use Rattle.mvcc_key.proofs.SortedLaws.{in_order-same}
+use Rattle.mem_table.proofs.EntryLaws.{sorted-entries, entries-take, entries-front}
 use Rattle.mem_table.proofs.StepLaws.{IsStep}
 use Rattle.mem_table.proofs.ListedLaws.{length-listed, numbers-take, entries-listed, step-listed}
 use Rattle.mem_table.proofs.merge.count_new.Goals as goal
@@ -70,7 +70,7 @@ returns-clause-count c =
     let none : c.loop-op.rest.now ≡ [] = nil_from_length c.loop-op.rest.now c.in_default.ensures.cases in
     let left : length (newest_ops c.loop-op.rest.now front) ≡ length front =
     ap (λ us. length (newest_ops us front)) none
-    ∙ ap length (in_order-sorted_list op_cmp-total front (sorted-entries front (entries-take c.loop-op.high older c.requires.older))) in
+    ∙ ap length (in_order-same op_cmp front (sorted-entries front (entries-take c.loop-op.high older c.requires.older))) in
     let within = c.loop-op.invariant.within in
     let all = c.loop-op.invariant.counted in
     let same = length-listed ops order in
