@@ -1,42 +1,25 @@
 -- What is stored of a valid history is its blocks, one after another.
-use Rattle.std.proofs.Common.{◌≡◌, Bool, true, false, cond, List, [], ◌∷◌, ◌++◌, refl, sym, ap, subst, ◌∙◌, append_assoc, inl, inr}
-use Rattle.std.specs.Prelude.{map, filter}
+use Rattle.std.proofs.Common.{◌≡◌, true, false, List, [], ◌∷◌, ◌++◌, refl, sym, ap, ◌∙◌, append_assoc, inl, inr}
+use Rattle.std.specs.Prelude.{map}
 use Rattle.std.specs.List.{AllByRecursion, flat_map}
 use Rattle.std.specs.List.Sorted.{IsStrictlySortedBy}
 use Rattle.std.specs.declared.cmp.Ordering.{Ordering}
 use Rattle.std.specs.declared.cmp.Ordering.TheVariants.{Less, Equal, Greater}
-use Rattle.std.specs.Ordering.{is_lt}
 use Rattle.std.proofs.lemmas.Slice.Eq.{bytes_eq-Decides}
 use Rattle.mvcc_key.specs.Lists.{put_in_order, in_order}
-use Rattle.mvcc_key.specs.Order.{Timestamp, no_time, is_no_time, is_before, time_cmp, key_cmp, is_same_key}
-use Rattle.mvcc_key.specs.History.{Version, version_cmp, Intent, intent_cmp, History, versions_of}
-use Rattle.mvcc_key.specs.Items.{Item, item_cmp, version_item, tombstone_item, tombstones_over, items}
-use Rattle.mvcc_key.proofs.OrderLaws.{time_cmp-IsAntisymmetric, key_cmp-IsAntisymmetric}
+use Rattle.mvcc_key.specs.Order.{no_time, is_no_time, is_before, time_cmp, key_cmp, is_same_key}
+use Rattle.mvcc_key.specs.History.{Version, version_cmp, Intent, intent_cmp, History}
+use Rattle.mvcc_key.specs.Items.{Item, items}
+use Rattle.mvcc_key.proofs.OrderLaws.{key_cmp-IsAntisymmetric}
 use Rattle.mvcc_key.proofs.SortedLaws.{IsBelowAll}
+use Rattle.mvcc_key.proofs.PlaceLaws.{in_order-pull}
+use Rattle.mvcc_key.proofs.EachLaws.{All-in_order, All-append, All-map, All-weaker}
+use Rattle.mvcc_key.proofs.TimeLaws.{less_from}
+use Rattle.mvcc_key.proofs.ItemLaws.{items-parts}
 use Rattle.intent_meta.specs.StoredPairs.{provisional, Stored, RecordOf, VersionOf, stored_cmp}
-use Rattle.intent_meta.proofs.StoredLaws.{in_order-pull, All-in_order, All-from_in_order, All-append, All-split, All-map, All-unmap, All-weaker, OfIntent, OfVersion, block_cmp, expand, blocks, in_order-versions, below_key, IsPlaced, stored_cmp-total, put_both}
+use Rattle.intent_meta.proofs.StoredLaws.{OfIntent, OfVersion, block_cmp, expand, blocks, in_order-versions, below_key, IsPlaced, stored_cmp-total, put_both}
 
 -- ---- where the versions of the intent's key stand
-
--- what holds of those that pass a test
-unfiltered : {X : Type 0} (P : X → Type 0) (test : X → Bool) (xs : List X) → AllByRecursion P (filter test xs) → AllByRecursion (λ x. test x ≡ true → P x) xs
-unfiltered P test [] a = tt
-unfiltered P test (x ∷ xs) a = by (test x) refl a (unfiltered P test xs)
-  where
-    by : (b : Bool) → test x ≡ b → AllByRecursion P (cond b (x ∷ filter test xs) (filter test xs))
-        → (AllByRecursion P (filter test xs) → AllByRecursion (λ y. test y ≡ true → P y) xs) → (test x ≡ true → P x) × AllByRecursion (λ y. test y ≡ true → P y) xs
-    by true e a rest = ((λ h. a.0), rest a.1)
-    by false e a rest = ((λ h. absurd cc), rest a)
-
--- what a test of an order says
-less_from : (o : Ordering) → is_lt o ≡ true → o ≡ Less
-less_from Less h = refl
-less_from Equal h = absurd cc
-less_from Greater h = absurd cc
-
--- an item below the intent, and each that ties with it
-before_tied : (ts : Timestamp) (x y : Item) → item_cmp x y ≡ Equal → is_before x.ts ts ≡ true → is_before y.ts ts ≡ true
-before_tied ts x y e h = subst (λ (t : Timestamp). is_before t ts ≡ true) (sym (time_cmp-IsAntisymmetric y.ts x.ts e)) h
 
 -- a version is of another key, or stands behind the intent
 version_placed : (i : Intent) (v : Version) → is_no_time i.ts ≡ false → is_no_time v.ts ≡ false → (is_same_key v.key i.key ≡ true → is_before v.ts i.ts ≡ true)
@@ -54,15 +37,8 @@ version_placed i v timed timed' before = by (key_cmp i.key v.key) refl
 -- so is each version where the intent is above every item of its key
 pub versions_placed : (h : History) (i : Intent) → is_no_time i.ts ≡ false → AllByRecursion (λ v. is_no_time v.ts ≡ false) h.versions
     → AllByRecursion (λ (item : Item). is_before item.ts i.ts ≡ true) (items h i.key) → AllByRecursion (λ v. IsPlaced i (OfVersion v)) h.versions
-unfolding items
-versions_placed h i timed versions above = placed h.versions versions (unfiltered (λ v. is_before v.ts i.ts ≡ true) (λ v. is_same_key v.key i.key) h.versions of_key)
+versions_placed h i timed versions above = placed h.versions versions (items-parts (λ t. is_before t i.ts ≡ true) h i.key above).versions
   where
-    of_key : AllByRecursion (λ v. is_before v.ts i.ts ≡ true) (versions_of i.key h)
-    of_key =
-        All-unmap (λ (item : Item). is_before item.ts i.ts ≡ true) version_item (versions_of i.key h)
-        (All-split (λ (item : Item). is_before item.ts i.ts ≡ true) (map version_item (versions_of i.key h)) (map tombstone_item (tombstones_over h.tombstones i.key))
-        (All-from_in_order item_cmp (λ (item : Item). is_before item.ts i.ts ≡ true) (before_tied i.ts) (map version_item (versions_of i.key h) ++ map tombstone_item (tombstones_over h.tombstones i.key)) above)).0
-
     placed : (vs : List Version) → AllByRecursion (λ v. is_no_time v.ts ≡ false) vs → AllByRecursion (λ v. is_same_key v.key i.key ≡ true → is_before v.ts i.ts ≡ true) vs
         → AllByRecursion (λ v. IsPlaced i (OfVersion v)) vs
     placed [] a b = tt
@@ -76,7 +52,7 @@ pub record IsAbove (vs : List Version) (i : Intent) : Type 0 where
   pub placed : AllByRecursion (λ v. IsPlaced i (OfVersion v)) vs
 
 -- the records, the provisional versions and the versions, in order
-abbrev stored_of : List Intent → List Version → List Stored
+abbrev pub stored_of : List Intent → List Version → List Stored
 stored_of is vs = in_order stored_cmp (map RecordOf is ++ map (λ i. VersionOf (provisional i)) is ++ map VersionOf vs)
 
 expand-versions : (vs : List Version) → flat_map expand (map OfVersion vs) ≡ map VersionOf vs

@@ -9,3 +9,17 @@ pub mod StoredLaws
 pub mod BlockLaws
 pub mod ReadBackLaws
 pub mod EntryRuleLaws
+pub mod ChangedLaws
+pub mod AcceptedLaws
+pub mod LeftAloneLaws
+pub mod PairsLaws
+pub mod SpanTimesLaws
+pub mod WithinLaws
+pub mod OneKeyLaws
+pub mod AlikeLaws
+pub mod StoredTimeLaws
+pub mod EndLaws
+pub mod PairChangeLaws
+pub mod KeyPairsLaws
+pub mod ChangesOnlyLaws
+pub mod KeyChangeLaws

@@ -14,6 +14,7 @@ use Rattle.mvcc_key.specs.Limits.{max_count}
 use Rattle.mvcc_key.specs.History.{Body, Deletion, Bytes, Int, is_deletion, Version, Entry, Intent, History, kept_local}
 use Rattle.mvcc_key.specs.Fragments.{fragments, tombstones_of}
 use Rattle.mvcc_key.proofs.SortedLaws.{in_order-sorted}
+use Rattle.mvcc_key.proofs.EachLaws.{All-in_order, All-append, All-map, All-weaker, All-split}
 use Rattle.mvcc_value.specs.Encoding.{zigzag, varint, plain_bytes, header, header_of, value_bytes, body_of, IsEncodable}
 use Rattle.mvcc_value.proofs.ValueLaws.{body_of-plain_bytes, kept_local_kept, value_of-value_bytes}
 use Rattle.mvcc_value.proofs.VarintLaws.{length-varint_le}
@@ -25,7 +26,7 @@ use Rattle.intent_meta.specs.HistoryOf.{known_body, entry_body, version_from, in
 use Rattle.intent_meta.specs.Valid.{IsStoredTime, IsValid, IsKeptLocal, IsStoredBody, IsStoredVersion, IsStoredEntry, sequence_cmp, IsStoredIntent}
 use Rattle.intent_meta.proofs.RecordLaws.{record_of-record_bytes}
 use Rattle.intent_meta.specs.ReadBack.{StoredIsReadBack, StoredPairsRise}
-use Rattle.intent_meta.proofs.StoredLaws.{All-in_order, All-append, All-map, All-weaker, All-split, Block, OfIntent, OfVersion, block_cmp, blocks, expand, versions_among, intents_among, versions_among-blocks, intents_among-blocks, stored_cmp-total}
+use Rattle.intent_meta.proofs.StoredLaws.{Block, OfIntent, OfVersion, block_cmp, blocks, expand, versions_among, intents_among, versions_among-blocks, intents_among-blocks, stored_cmp-total}
 use Rattle.intent_meta.proofs.BlockLaws.{IsAbove, versions_placed, stored_of-blocks}
 
 -- ---- values
@@ -173,7 +174,7 @@ entry_body-plain (e ∷ es) stored =
 -- ---- intents
 
 -- a timestamp at which something is stored is one
-stored_timed : (t : Timestamp) → IsStoredTime t → is_no_time t ≡ false
+pub stored_timed : (t : Timestamp) → IsStoredTime t → is_no_time t ≡ false
 stored_timed t h = not-true _ (and_parts (not (is_no_time t)) (is_in_range t) h).0
 
 -- what is known of the last entry of an intent, and of those before it
@@ -266,11 +267,11 @@ intents_in-blocks h (OfIntent i ∷ bs) readable =
 -- ---- histories
 
 -- versions have timestamps
-versions_timed : (h : History) → IsValid h → AllByRecursion (λ v. is_no_time v.ts ≡ false) h.versions
+pub versions_timed : (h : History) → IsValid h → AllByRecursion (λ v. is_no_time v.ts ≡ false) h.versions
 versions_timed h valid = All-weaker IsStoredVersion (λ v. is_no_time v.ts ≡ false) h.versions (λ v stored. stored_timed v.ts stored.ts) valid.versions
 
 -- the intents stand above the versions of their keys
-intents_above : (h : History) → IsValid h → AllByRecursion (IsAbove h.versions) h.intents
+pub intents_above : (h : History) → IsValid h → AllByRecursion (IsAbove h.versions) h.intents
 intents_above h valid =
     All-weaker (IsStoredIntent h) (IsAbove h.versions) h.intents
     (λ i stored. record { timed = stored_timed i.ts stored.ts; placed = versions_placed h i (stored_timed i.ts stored.ts) (versions_timed h valid) stored.above_items })

@@ -5,7 +5,7 @@ use Rattle.std.specs.List.{AllByRecursion, flat_map}
 use Rattle.std.specs.List.Sorted.{IsStrictlySortedBy}
 use Rattle.std.specs.declared.cmp.Ordering.{Ordering}
 use Rattle.std.specs.declared.cmp.Ordering.TheVariants.{Less, Equal, Greater}
-use Rattle.std.specs.Ordering.{match_ordering, ordering_reverse, on}
+use Rattle.std.specs.Ordering.{match_ordering, on}
 use Rattle.std.specs.Cmp.{IsTotalOrder, tied_itself}
 use Rattle.std.proofs.lemmas.Cmp.{on_total}
 use Rattle.mvcc_key.specs.Lists.{put_in_order, in_order}
@@ -13,97 +13,8 @@ use Rattle.mvcc_key.specs.Order.{Timestamp, no_time, is_no_time, Key, key_cmp, N
 use Rattle.mvcc_key.specs.History.{Version, version_name, version_cmp, Intent, intent_cmp}
 use Rattle.mvcc_key.proofs.OrderLaws.{key_cmp-total, name_cmp-total}
 use Rattle.mvcc_key.proofs.SortedLaws.{IsBelowAll}
+use Rattle.mvcc_key.proofs.EachLaws.{All-in_order, All-append, All-map}
 use Rattle.intent_meta.specs.StoredPairs.{provisional, Stored, RecordOf, VersionOf, stored_name, stored_cmp}
-
--- ---- lists in order
-
-module _ {X : Type 0} {cmp : X → X → Ordering} (total : IsTotalOrder cmp) where
-  -- what is below another has it above
-  reversed : (x y : X) → cmp x y ≡ Less → cmp y x ≡ Greater
-  reversed x y h = total.antisymm y x ∙ ap ordering_reverse h
-
-  -- what is below another is below what ties with it
-  below_tied : (x y z : X) → cmp x y ≡ Less → cmp y z ≡ Equal → cmp x z ≡ Less
-  below_tied x y z h e = total.antisymm x z ∙ ap ordering_reverse (sym (total.congr y z x e) ∙ reversed x y h)
-
-  -- two elements of which the first is the lower, put in either order
-  pub put_lower : (x y : X) (zs : List X) → cmp x y ≡ Less → put_in_order cmp x (put_in_order cmp y zs) ≡ put_in_order cmp y (put_in_order cmp x zs)
-  put_lower x y [] h = let g : cmp y x ≡ Greater = reversed x y h in rw (h, g) refl
-  put_lower x y (z ∷ zs) h = by (cmp y z) (cmp x z) refl refl (put_lower x y zs h)
-    where
-      by : (o p : Ordering) → cmp y z ≡ o → cmp x z ≡ p → put_in_order cmp x (put_in_order cmp y zs) ≡ put_in_order cmp y (put_in_order cmp x zs)
-          → put_in_order cmp x (match_ordering o (y ∷ z ∷ zs) (y ∷ zs) (z ∷ put_in_order cmp y zs))
-          ≡ put_in_order cmp y (match_ordering p (x ∷ z ∷ zs) (x ∷ zs) (z ∷ put_in_order cmp x zs))
-      by Less Less e f rest = let g : cmp y x ≡ Greater = reversed x y h in rw (h, g, e) refl
-      by Less Equal e f rest = let k : cmp x z ≡ Less = total.trans x y z h e in cc
-      by Less Greater e f rest = let k : cmp x z ≡ Less = total.trans x y z h e in cc
-      by Equal Less e f rest = let g : cmp y x ≡ Greater = reversed x y h in rw (h, g, e) refl
-      by Equal Equal e f rest = let k : cmp x z ≡ Less = below_tied x y z h e in cc
-      by Equal Greater e f rest = let k : cmp x z ≡ Less = below_tied x y z h e in cc
-      by Greater Less e f rest = let g : cmp y x ≡ Greater = reversed x y h in rw (f, g, e) refl
-      by Greater Equal e f rest = let g : cmp y x ≡ Greater = reversed x y h in rw (f, g) refl
-      by Greater Greater e f rest = rw (f, e) (ap (λ ws. z ∷ ws) rest)
-
-  -- an element below some others may be put behind them
-  pub in_order-pull : (xs ys : List X) (p : X) → AllByRecursion (λ x. cmp p x ≡ Less) xs → in_order cmp (xs ++ p ∷ ys) ≡ put_in_order cmp p (in_order cmp (xs ++ ys))
-  in_order-pull [] ys p below = refl
-  in_order-pull (x ∷ xs) ys p below =
-      ap (put_in_order cmp x) (in_order-pull xs ys p below.1) ∙ sym (put_lower p x (in_order cmp (xs ++ ys)) below.0)
-
-module _ {X : Type 0} (cmp : X → X → Ordering) (P : X → Type 0) where
-  -- what holds of all holds of them in order
-  All-put : (x : X) (ys : List X) → P x → AllByRecursion P ys → AllByRecursion P (put_in_order cmp x ys)
-  All-put x [] h a = (h, tt)
-  All-put x (y ∷ ys) h a = by (cmp x y) (All-put x ys h a.1)
-    where
-      by : (o : Ordering) → AllByRecursion P (put_in_order cmp x ys) → AllByRecursion P (match_ordering o (x ∷ y ∷ ys) (x ∷ ys) (y ∷ put_in_order cmp x ys))
-      by Less rest = (h, a)
-      by Equal rest = (h, a.1)
-      by Greater rest = (a.0, rest)
-
-  pub All-in_order : (xs : List X) → AllByRecursion P xs → AllByRecursion P (in_order cmp xs)
-  All-in_order [] a = tt
-  All-in_order (x ∷ xs) a = All-put x (in_order cmp xs) a.0 (All-in_order xs a.1)
-
-  -- what holds of a list in order holds of all, where it holds of those that tie
-  module _ (tied : (x y : X) → cmp x y ≡ Equal → P x → P y) where
-    All-from_put : (x : X) (ys : List X) → AllByRecursion P (put_in_order cmp x ys) → P x × AllByRecursion P ys
-    All-from_put x [] a = (a.0, tt)
-    All-from_put x (y ∷ ys) a = by (cmp x y) refl a (All-from_put x ys)
-      where
-        by : (o : Ordering) → cmp x y ≡ o → AllByRecursion P (match_ordering o (x ∷ y ∷ ys) (x ∷ ys) (y ∷ put_in_order cmp x ys))
-            → (AllByRecursion P (put_in_order cmp x ys) → P x × AllByRecursion P ys) → P x × AllByRecursion P (y ∷ ys)
-        by Less e b rest = (b.0, b.1)
-        by Equal e b rest = (b.0, (tied x y e b.0, b.1))
-        by Greater e b rest = let r = rest b.1 in (r.0, (b.0, r.1))
-
-    pub All-from_in_order : (xs : List X) → AllByRecursion P (in_order cmp xs) → AllByRecursion P xs
-    All-from_in_order [] a = tt
-    All-from_in_order (x ∷ xs) a = let r = All-from_put x (in_order cmp xs) a in (r.0, All-from_in_order xs r.1)
-
--- what holds of two lists holds of one behind the other
-pub All-append : {X : Type 0} (P : X → Type 0) (xs ys : List X) → AllByRecursion P xs → AllByRecursion P ys → AllByRecursion P (xs ++ ys)
-All-append P [] ys a b = b
-All-append P (x ∷ xs) ys a b = (a.0, All-append P xs ys a.1 b)
-
--- and of both where it holds of the whole
-pub All-split : {X : Type 0} (P : X → Type 0) (xs ys : List X) → AllByRecursion P (xs ++ ys) → AllByRecursion P xs × AllByRecursion P ys
-All-split P [] ys a = (tt, a)
-All-split P (x ∷ xs) ys a = let r = All-split P xs ys a.1 in ((a.0, r.0), r.1)
-
--- what holds of mapped elements
-pub All-map : {X Y : Type 0} (P : Y → Type 0) (f : X → Y) (xs : List X) → AllByRecursion (λ x. P (f x)) xs → AllByRecursion P (map f xs)
-All-map P f [] a = tt
-All-map P f (x ∷ xs) a = (a.0, All-map P f xs a.1)
-
-pub All-unmap : {X Y : Type 0} (P : Y → Type 0) (f : X → Y) (xs : List X) → AllByRecursion P (map f xs) → AllByRecursion (λ x. P (f x)) xs
-All-unmap P f [] a = tt
-All-unmap P f (x ∷ xs) a = (a.0, All-unmap P f xs a.1)
-
--- what follows of each
-pub All-weaker : {X : Type 0} (P Q : X → Type 0) (xs : List X) → ((x : X) → P x → Q x) → AllByRecursion P xs → AllByRecursion Q xs
-All-weaker P Q [] f a = tt
-All-weaker P Q (x ∷ xs) f a = (f x a.0, All-weaker P Q xs f a.1)
 
 -- ---- blocks
 

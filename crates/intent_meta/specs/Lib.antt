@@ -6,3 +6,9 @@ pub mod Valid
 pub mod ReadBack
 pub mod Entries
 pub mod Seen
+pub mod LeftAlone
+pub mod Within
+pub mod Alike
+pub mod PairChanges
+pub mod KeyPairs
+pub mod KeyChanges

@@ -1,9 +1,10 @@
 //! The store of parts.
-ghost use Rattle.std.specs.Prelude.{◌≡◌, ◌≤◌, [], ◌∷◌, map, All, IfOk, OnOk, OnErr};
-ghost use Rattle.mvcc_key.specs.SeenPoint.{points_of};
+ghost use Rattle.std.specs.Prelude.{◌≡◌, ◌≤◌, [], ◌∷◌, map, All, false, IsOk, IfOk, OnOk, OnErr};
+ghost use Rattle.mvcc_key.specs.SeenPoint.{point_of, points_of};
 ghost use Rattle.mem_table.specs.Entries.{IsBatch, IsStorable};
 ghost use Rattle.lsm_store.specs.Parts.{after_batch, flushed, compacted, layout};
 ghost use Rattle.lsm_store.specs.Shown.{no_points, shown, with_batch, parts_of, stage_of};
+ghost use Rattle.lsm_store.specs.Changing.{changes_points};
 ghost use Rattle.lsm_store.specs.Seen.{seen_shape};
 
 use crate::changing::{changes_at, retain_changes};
@@ -75,6 +76,7 @@ impl Store {
     /// The same for one operation, whose name is sought in the memory table once.
     fn apply_one(&mut self, op: PointOp) -> Result<(), OutOfMemory>
         requires { IsStorable op }
+        ensures idle { changes_points (shown self.old) (point_of op) ≡ false → IsOk result }
         ensures shown { OnOk result (shown self.new ≡ with_batch (points_of (op ∷ [])) (shown self.old)) }
         ensures parts { OnOk result (parts_of self.new ≡ after_batch (stage_of self.old) (stage_of self.new) (parts_of self.old)) }
         ensures err { OnErr result (self.new ≡ self.old) }

@@ -1,5 +1,5 @@
 //! Newer operations merged into older ones, in place.
-ghost use Rattle.std.specs.Prelude.{ℕ, ◌≡◌, ◌≤◌, ◌<◌, ◌+◌, ◌-◌, [], ◌∷◌, ◌++◌, ◌^◌, length, take, drop, slice_range, slice_get, Some, OnOk, OnErr, vec_len, vec_capacity};
+ghost use Rattle.std.specs.Prelude.{ℕ, ◌≡◌, ◌≤◌, ◌<◌, ◌+◌, ◌-◌, [], ◌∷◌, ◌++◌, ◌^◌, length, take, drop, slice_range, slice_get, Some, IsOk, OnOk, OnErr, vec_len, vec_capacity};
 ghost use Rattle.mvcc_key.specs.Encoded.{name_in};
 ghost use Rattle.mem_table.specs.Entries.{AreEntries};
 ghost use Rattle.mem_table.specs.Places.{newest_ops, listed, AreNumbersOf, IsRangeOf, IsStored};
@@ -70,6 +70,8 @@ pub(crate) fn put_one(
     requires numbers { AreNumbersOf ops.old.items order.old.items }
     requires older { AreEntries (listed ops.old.items order.old.items) }
     requires range { IsRangeOf (name_in op.key) (listed ops.old.items order.old.items) low behind }
+    ensures known { low < behind → IsOk result }
+    ensures room { vec_len ops.old < vec_capacity ops.old → vec_len order.old < vec_capacity order.old → vec_len ops.old < 2 ^ 32 → IsOk result }
     ensures count { vec_len order.new ≡ vec_len ops.new }
     ensures numbers { AreNumbersOf ops.new.items order.new.items }
     ensures ok { OnOk result (listed ops.new.items order.new.items ≡ newest_ops (op ∷ []) (listed ops.old.items order.old.items)) }

@@ -1,5 +1,5 @@
 //! Point operations in order.
-ghost use Rattle.std.specs.Prelude.{◌≡◌, ◌↔◌, [], ◌∷◌, OnOk, OnErr, IsOk, IsTrue, vec_len};
+ghost use Rattle.std.specs.Prelude.{◌≡◌, ◌<◌, ◌↔◌, [], ◌∷◌, OnOk, OnErr, IsOk, IsTrue, vec_len};
 ghost use Rattle.std.specs.Option.{option_map};
 ghost use Rattle.mvcc_key.specs.Order.{Name};
 ghost use Rattle.mvcc_key.specs.KeyFormat.{name_of};
@@ -89,6 +89,7 @@ impl SortedOps {
     pub(crate) fn put_at(&mut self, place: MemPlace, op: PointOp) -> Result<(), OutOfMemory>
         requires op { IsStorable op }
         requires place { IsPlaceOf (name_in op.key) (points_held self.old) place }
+        ensures known { place.low < place.behind → IsOk result }
         ensures ok { OnOk result (ops_held self.new ≡ newest_ops (op ∷ []) (ops_held self.old)) }
         ensures err { OnErr result (ops_held self.new ≡ ops_held self.old) }
     {

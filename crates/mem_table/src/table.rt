@@ -1,5 +1,5 @@
 //! The memory table.
-ghost use Rattle.std.specs.Prelude.{◌≡◌, ◌↔◌, [], ◌∷◌, length, All, OnOk, OnErr, IsOk, IsTrue};
+ghost use Rattle.std.specs.Prelude.{◌≡◌, ◌<◌, ◌↔◌, [], ◌∷◌, length, All, OnOk, OnErr, IsOk, IsTrue};
 ghost use Rattle.std.specs.Option.{option_map};
 ghost use Rattle.mvcc_key.specs.Order.{Name};
 ghost use Rattle.mvcc_key.specs.KeyFormat.{name_of};
@@ -83,6 +83,7 @@ impl MemTable {
     pub fn put_at(&mut self, place: MemPlace, op: PointOp) -> Result<(), OutOfMemory>
         requires op { IsStorable op }
         requires place { IsPlaceOf (name_in op.key) self.old.points place }
+        ensures known { place.low < place.behind → IsOk result }
         ensures ok { OnOk result (self.new ≡ after_batch (batch_of_one op) self.old) }
         ensures newest { OnOk result
             (ShowsNewest (points_of (op ∷ [])) self.old.points self.new.points) }

@@ -41,6 +41,7 @@ pub fn check(key: &[u8], body: Body<'_>, ts: Timestamp) -> Result<(), Refusal>
     ensures key { OnOk result (length key.now ≤ 4096) }
     ensures data { OnOk result (data_length (seen_body body.entry) ≤ 1048576) }
     ensures err { IfErr result (λ why. Tells (refusal_of why) (checked key.now (time_of ts) (seen_body body.entry))) }
+    ensures sure { IfErr result (λ why. IsSome (refusal_of why)) }
 {
     let data = data_len(body);
     if key.is_empty() {

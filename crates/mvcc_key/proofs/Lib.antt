@@ -25,3 +25,11 @@ pub mod ClockLaws
 pub mod PointLaws
 pub mod HeadLaws
 pub mod SeenPointLaws
+pub mod EachLaws
+pub mod FilterLaws
+pub mod PlaceLaws
+pub mod TimeLaws
+pub mod SameKeyLaws
+pub mod SameElementsLaws
+pub mod ByKeyLaws
+pub mod ItemLaws

@@ -1,5 +1,5 @@
 //! From operations to a run.
-ghost use Rattle.std.specs.Prelude.{◌≡◌, ◌<◌, ◌+◌, ◌^◌, ◌++◌, [], Ok, length, All, IfOk, OnOk, IfSome};
+ghost use Rattle.std.specs.Prelude.{◌≡◌, ◌<◌, ◌+◌, ◌^◌, ◌++◌, [], Ok, length, All, IfOk, OnOk, IfSome, MatchOption, ◌≤◌};
 ghost use Rattle.std.specs.List.{flat_map};
 ghost use Rattle.mvcc_key.specs.Encoded.{IsName};
 ghost use Rattle.mvcc_key.specs.SeenPoint.{point_of, points_of};
@@ -92,14 +92,14 @@ fn value_len(value: &Option<Bytes>) -> usize
 /// How many bytes a point has, where that is a length.
 fn point_len(op: &PointOp) -> Option<usize>
     requires { IsName op.now.key }
-    ensures { IfSome result (λ n. n ≡ length (point_bytes (point_of op.now))) }
+    ensures { MatchOption result (2 ^ 64 ≤ length (point_bytes (point_of op.now))) (λ n. n ≡ length (point_bytes (point_of op.now))) }
 {
     (KEY_HEAD_LEN + op.key.as_slice().len()).checked_add(value_len(&op.value))
 }
 
 /// How many bytes a range operation has, where that is a length.
 fn range_len(op: &RangeOp) -> Option<usize>
-    ensures { IfSome result (λ n. n ≡ length (range_bytes (range_of op.now))) }
+    ensures { MatchOption result (2 ^ 64 ≤ length (range_bytes (range_of op.now))) (λ n. n ≡ length (range_bytes (range_of op.now))) }
 {
     (RANGE_HEAD_LEN + op.start.bytes().len()).checked_add(op.end.bytes().len())
 }

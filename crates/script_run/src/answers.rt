@@ -1,5 +1,5 @@
 //! The answers of a script, gathered and written in large pieces.
-ghost use Rattle.std.specs.Prelude.{◌≡◌, ◌≤◌, [], OnOk, OnErr, IfErr};
+ghost use Rattle.std.specs.Prelude.{◌≡◌, ◌≤◌, ◌<◌, vec_len, [], OnOk, OnErr, IfErr};
 ghost use Rattle.std.specs.Io.KnownBytes.{Appends};
 ghost use Rattle.io_edge.specs.Causes.{HasCause, Rose};
 ghost use Rattle.io_edge.specs.Writing.{AppendsBeginning};
@@ -58,6 +58,7 @@ pub fn write_answers<K: Sink>(
     ensures ok { OnOk result (Appends (K.held sink.old) (K.held sink.new) (script_output options script.now)) }
     ensures err { OnErr result (AppendsBeginning (K.held sink.old) (K.held sink.new) (script_output options script.now)) }
     ensures later { K.faults sink.old ≤ K.faults sink.new }
+    ensures sure { OnOk result (K.faults sink.new ≡ K.faults sink.old) }
     ensures cause { IfErr result (λ stop. stop ≡ WriteStop.WriteFault → Rose (K.faults sink.old) (K.faults sink.new)) }
 {
     let mut text = Vec::new(alloc);
@@ -86,6 +87,7 @@ fn gather_answers<K: Sink>(
     ensures ok { OnOk result (Gathers (K.held sink.old) (K.held sink.new) text.new.items (script_output options script.now)) }
     ensures err { IfErr result (λ stop. StopsAt stop (K.held sink.old) (K.held sink.new) text.new.items (script_output options script.now)) }
     ensures later { K.faults sink.old ≤ K.faults sink.new }
+    ensures sure { OnOk result (K.faults sink.new ≡ K.faults sink.old) }
     ensures cause { IfErr result (λ stop. stop ≡ WriteStop.WriteFault → Rose (K.faults sink.old) (K.faults sink.new)) }
 {
     let mut session = Session::new(alloc, options);
@@ -104,6 +106,7 @@ fn gather_answers<K: Sink>(
 /// Writes what is gathered, where it is about a piece.
 fn write_if_large<K: Sink>(text: &mut Vec<u8>, sink: &mut K) -> Result<(), Failed>
     ensures ok { OnOk result (Moves (K.held sink.old) (K.held sink.new) text.old.items text.new.items) }
+    ensures small { OnOk result (vec_len text.new < 65536) }
     ensures err { OnErr result (AppendsBeginning (K.held sink.old) (K.held sink.new) text.old.items) }
     ensures cause { HasCause (K.faults sink.old) (K.faults sink.new) result }
 {

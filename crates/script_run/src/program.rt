@@ -75,6 +75,7 @@ pub fn run<R: Threads + Sync, S: Source, K: Sink>(
     ensures write { result ≡ Status.WriteFault → Rose (K.faults sink.old) (K.faults sink.new) }
     ensures source_counts { S.faults source.old ≤ S.faults source.new }
     ensures sink_counts { K.faults sink.old ≤ K.faults sink.new }
+    ensures sure { result ≡ Status.Done → (S.faults source.new ≡ S.faults source.old) × (K.faults sink.new ≡ K.faults sink.old) }
     ensures within { TakesWithin (S.left source.old) (S.left source.new) }
 
     // Where nothing fails and the script is short enough, all of it is answered.
@@ -102,6 +103,7 @@ fn run_script<S: Source, K: Sink>(
     ensures write { result ≡ Status.WriteFault → Rose (K.faults sink.old) (K.faults sink.new) }
     ensures source_counts { S.faults source.old ≤ S.faults source.new }
     ensures sink_counts { K.faults sink.old ≤ K.faults sink.new }
+    ensures sure { result ≡ Status.Done → (S.faults source.new ≡ S.faults source.old) × (K.faults sink.new ≡ K.faults sink.old) }
 {
     match read_script(alloc, source) {
         Ok(script) => answer_script(alloc, options, script.as_slice(), sink),
@@ -115,6 +117,7 @@ fn answer_script<K: Sink>(alloc: Global, options: Options, script: &[u8], sink: 
     ensures answered { AnswersAs result (script_output options) script.now (K.held sink.old) (K.held sink.new) }
     ensures write { result ≡ Status.WriteFault → Rose (K.faults sink.old) (K.faults sink.new) }
     ensures counts { K.faults sink.old ≤ K.faults sink.new }
+    ensures sure { result ≡ Status.Done → K.faults sink.new ≡ K.faults sink.old }
 {
     if script.len() > SCRIPT_MAX {
         let whole = whole_part(script.split_at(SCRIPT_MAX).0);

@@ -37,6 +37,7 @@ pub fn read_script<S: Source>(alloc: Global, source: &mut S) -> Result<Vec<u8>, 
     ensures ok { IfOk result (λ script. ReadsScript (S.left source.old) (S.left source.new) script.items) }
     ensures err { OnErr result (TakesWithin (S.left source.old) (S.left source.new)) }
     ensures later { S.faults source.old ≤ S.faults source.new }
+    ensures sure { IfOk result (λ _. S.faults source.new ≡ S.faults source.old) }
     ensures cause { IfErr result (λ stop. stop ≡ ReadStop.ReadFault → Rose (S.faults source.old) (S.faults source.new)) }
 {
     let mut script = Vec::new(alloc);

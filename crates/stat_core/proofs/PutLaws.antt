@@ -41,7 +41,7 @@ later_is_one s t newer = by s.wall s.logical t.wall t.logical newer
     by a b c d h = grind (arith, nat_tests)
 
 -- a version of the same key with a newer timestamp stands before
-newer_first : (p old : Pair) → old.name.key ≡ p.name.key → is_record old ≡ false → is_before old.name.ts p.name.ts ≡ true → pair_cmp p old ≡ Less
+pub newer_first : (p old : Pair) → old.name.key ≡ p.name.key → is_record old ≡ false → is_before old.name.ts p.name.ts ≡ true → pair_cmp p old ≡ Less
 newer_first p old same version newer =
     let own : is_no_time p.name.ts ≡ false = later_is_one old.name.ts p.name.ts newer in
     let keys : key_cmp p.name.key old.name.key ≡ Equal = ap (key_cmp p.name.key) same ∙ tied_itself key_cmp-total p.name.key in

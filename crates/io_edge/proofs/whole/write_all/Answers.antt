@@ -12,5 +12,6 @@ loop-rest-preserved g c =
       rest = rw back (rest-more c.args.piece.now c.loop-rest.rest.now c.in_ok-count.count i.rest i.short w.bound);
       appended = rw back (appends-more _ _ _ c.args.piece.now c.loop-rest.rest.now c.in_ok-count.count i.rest i.short w.bound i.appended w.bytes);
       told = w.told ∙ i.told;
+      sure = w.cause.sure ∙ i.sure;
       later = omega (arith, i.later, w.cause.later);
     }

@@ -8,6 +8,7 @@ invariant-loop-rest g l = record {
   rest : l.rest ≡ drop (length l.piece - length l.rest) l.piece;
   appended : Appends (g.K.Sink.held l.initial.sink) (g.K.Sink.held l.sink) (take (length l.piece - length l.rest) l.piece);
   told : is_some (g.K.Sink.held l.sink) ≡ is_some (g.K.Sink.held l.initial.sink);
+  sure : g.K.Sink.faults l.sink ≡ g.K.Sink.faults l.initial.sink;
   later : g.K.Sink.faults l.initial.sink ≤ g.K.Sink.faults l.sink;
 }
 

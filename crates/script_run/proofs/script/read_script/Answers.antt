@@ -1,5 +1,5 @@
 -- What was read is what the source gave.
-use Rattle.std.proofs.Common.{◌≡◌, ◌∙◌, ap, length, take, arith}
+use Rattle.std.proofs.Common.{refl, ◌≡◌, ◌∙◌, ap, length, take, arith}
 use Rattle.std.proofs.lemmas.List.{take_at}
 use Rattle.script_run.specs.Promise.{read_size}
 use Rattle.script_run.proofs.TextLaws.{on_err}
@@ -11,6 +11,7 @@ loop-source-init g c = record {
   consumed = nothing_given _ _ c.new-script.ensures.items;
   within = rw c.new-script.ensures.items (omega arith);
   room = c.in_ok-buffer.ensures;
+  sure = refl;
   later = omega arith;
 }
 
@@ -18,6 +19,9 @@ pub returns-in-Err-clause-err : goal.returns-in-Err-clause-err
 returns-in-Err-clause-err g c =
     let i = c.loop-source.invariant in
     read_failed _ _ _ c.loop-source.script.items i.consumed i.within c.in-Err.ensures.bytes
+
+pub returns-then-count-eq0-clause-sure : goal.returns-then-count-eq0-clause-sure
+returns-then-count-eq0-clause-sure g c = c.in-Ok.ensures.cause.sure ∙ c.loop-source.invariant.sure
 
 pub returns-then-count-eq0-clause-ok : goal.returns-then-count-eq0-clause-ok
 returns-then-count-eq0-clause-ok g c =
@@ -36,6 +40,7 @@ loop-source-preserved g c =
       consumed = read_more _ _ _ c.loop-source.script.items _ c.read.new.into c.split_at.result.0.now c.in-Ok.count i.consumed r.bytes.0 piece c.in_ok-extend_from_slice.ensures.items;
       within = length_more c.loop-source.script.items _ c.read.new.into c.split_at.result.0.now c.in-Ok.count (omega arith) r.bound.0 room piece c.in_ok-extend_from_slice.ensures.items;
       room = i.room;
+      sure = r.cause.sure ∙ i.sure;
       later = omega (arith, i.later, r.cause.later);
     }
 

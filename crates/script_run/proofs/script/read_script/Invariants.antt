@@ -9,6 +9,7 @@ invariant-loop-source g l = record {
   consumed : Consumes (g.S.Source.left l.initial.source) (g.S.Source.left l.source) l.script.items;
   within : length l.script.items ≤ script_max + read_size;
   room : vec_len l.buffer ≡ read_size;
+  sure : g.S.Source.faults l.source ≡ g.S.Source.faults l.initial.source;
   later : g.S.Source.faults l.initial.source ≤ g.S.Source.faults l.source;
 }
 
