@@ -11,7 +11,7 @@ use Rattle.intent_meta.specs.declared.fault.IntentFault.{IntentFault}
 use Rattle.intent_meta.specs.Record.{IntentRecord, flag_byte, entry_bytes, record_bytes, record_of}
 use Rattle.intent_meta.specs.Rules.{AreRecordEntries, IsRecordOf}
 use Rattle.intent_meta.specs.Entries.{IsWhole, AreEntries}
-use Rattle.intent_meta.specs.Seen.{known_record, record_in}
+use Rattle.intent_meta.specs.views.Seen.{known_record, record_in}
 use Rattle.intent_meta.proofs.RecordLaws.{IsRecordOf-record_of}
 
 -- bytes that are read are those of the record that they are known to be

@@ -13,10 +13,10 @@ use Rattle.mvcc_key.specs.History.{Entry, SeqRange, is_ignored, without_ignored,
 use Rattle.mvcc_key.proofs.ByteLaws.{wide32, bind_ok, unless_ok, ok_is, step, number_again, bytes_again}
 use Rattle.intent_meta.specs.declared.fault.IntentFault.{IntentFault}
 use Rattle.intent_meta.specs.declared.fault.IntentFault.TheVariants.{Short}
-use Rattle.mvcc_key.specs.Seen.{range_of}
+use Rattle.mvcc_key.specs.views.Seen.{range_of}
 use Rattle.mvcc_key.specs.declared.span.SeqRange as Ranges
 use Rattle.intent_meta.specs.Record.{entry_bytes}
-use Rattle.intent_meta.specs.Seen.{is_ignored_by}
+use Rattle.intent_meta.specs.views.Seen.{is_ignored_by}
 use Rattle.intent_meta.specs.Entries.{entry_in, IsWhole, AreEntries}
 
 -- a test of mapped elements

@@ -5,10 +5,10 @@ pub mod HistoryOf
 pub mod Valid
 pub mod ReadBack
 pub mod Entries
-pub mod Seen
 pub mod LeftAlone
 pub mod Within
 pub mod Alike
 pub mod PairChanges
 pub mod KeyPairs
 pub mod KeyChanges
+pub mod views

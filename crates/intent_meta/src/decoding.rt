@@ -4,7 +4,7 @@ ghost use Rattle.mvcc_key.specs.Order.{Timestamp};
 ghost use Rattle.intent_meta.specs.Entries.{rest_of};
 ghost use Rattle.intent_meta.specs.Record as words;
 ghost use Rattle.intent_meta.specs.Rules.{IsRecordOf};
-ghost use Rattle.intent_meta.specs.Seen.{seen_intent};
+ghost use Rattle.intent_meta.specs.views.Seen.{seen_intent};
 
 use crate::fields::{bytes_of, count, entry, flag, number, time, value_length};
 use crate::{IntentFault, IntentRef};

@@ -2,9 +2,9 @@
 ghost use Rattle.std.specs.Prelude.{◌≡◌, ℕ, List, IfOk, map, ◌&&◌, not, nat_le, OnOk, [], ◌∷◌, ◌++◌, if◌then◌else◌};
 ghost use Rattle.std.specs.Option.{option_map};
 ghost use Rattle.mvcc_key.specs.History as history;
-ghost use Rattle.mvcc_key.specs.Seen.{range_of};
+ghost use Rattle.mvcc_key.specs.views.Seen.{range_of};
 ghost use Rattle.intent_meta.specs.Entries.{AreEntries};
-ghost use Rattle.intent_meta.specs.Seen.{is_ignored_by, seen_entry};
+ghost use Rattle.intent_meta.specs.views.Seen.{is_ignored_by, seen_entry};
 
 use crate::fields::{EntryRef, first_entry};
 use crate::{Entries, Entry};

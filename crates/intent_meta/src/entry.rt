@@ -1,5 +1,5 @@
 //! Values that a transaction wrote, with their sequences.
-use mvcc_key::{Bytes, Items};
+use mvcc_key::{Bytes, Elements};
 use std::marker::Model;
 
 /// A value that a transaction wrote at a sequence (CockroachDB `enginepb.MVCCMetadata_SequencedIntent`).
@@ -21,4 +21,4 @@ impl Model for Entry {
 }
 
 /// Entries of one intent, with rising sequences.
-pub type Entries = Items<Entry>;
+pub type Entries = Elements<Entry>;

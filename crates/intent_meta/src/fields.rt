@@ -7,7 +7,7 @@ ghost use Rattle.mvcc_key.specs.Order.{max_wall};
 ghost use Rattle.mvcc_key.specs.Steps.{bytes_at, number_at};
 ghost use Rattle.intent_meta.specs.Entries.{entry_in};
 ghost use Rattle.intent_meta.specs.Record as words;
-ghost use Rattle.intent_meta.specs.Seen.{seen_entry};
+ghost use Rattle.intent_meta.specs.views.Seen.{seen_entry};
 
 use crate::IntentFault;
 use crate::numbers::{read_u32, read_u64};

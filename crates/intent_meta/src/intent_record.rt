@@ -2,7 +2,7 @@
 ghost use Rattle.std.specs.Prelude.{◌≡◌, ◌≤◌, ◌+◌, ◌++◌, false, true, Ok, None, IfOk, length, vec_len, vec_capacity};
 ghost use Rattle.mvcc_key.specs.Limits.{max_count};
 ghost use Rattle.mvcc_key.specs.Order.{is_no_time};
-ghost use Rattle.mvcc_key.specs.Seen.{time_of};
+ghost use Rattle.mvcc_key.specs.views.Seen.{time_of};
 ghost use Rattle.intent_meta.specs.Record.{head_bytes, is_value_length, record_bytes, record_of};
 ghost use Rattle.intent_meta.specs.Rules.{AreRecordEntries};
 
@@ -32,7 +32,7 @@ pub struct IntentRecord {
 impl Model for IntentRecord {
     ghost use Rattle.intent_meta.specs.Record.{IntentRecord};
     ghost use Rattle.intent_meta.specs.Rules.{IsRecord};
-    ghost use Rattle.mvcc_key.specs.Seen.{time_of};
+    ghost use Rattle.mvcc_key.specs.views.Seen.{time_of};
 
     ghost Value = { IntentRecord };
 

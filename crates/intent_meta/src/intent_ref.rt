@@ -3,7 +3,7 @@ ghost use Rattle.std.specs.Prelude.{◌≡◌, ℕ, IsOk, IfOk, IfSome, None, ma
 ghost use Rattle.std.specs.Option.{option_map};
 ghost use Rattle.mvcc_key.specs.Encoded.{IsBytes};
 ghost use Rattle.mvcc_key.specs.History.{entry_at, without_ignored};
-ghost use Rattle.mvcc_key.specs.Seen.{range_of, time_of};
+ghost use Rattle.mvcc_key.specs.views.Seen.{range_of, time_of};
 ghost use Rattle.intent_meta.specs.Entries as words;
 ghost use Rattle.intent_meta.specs.Record.{record_bytes, record_of};
 
@@ -44,7 +44,7 @@ pub struct IntentRef<'a> {
 
 impl<'a> IntentRef<'a> {
     ghost use Rattle.intent_meta.specs.Rules.{AreRecordEntries, IsRecord, IsRecordEntry};
-    ghost use Rattle.intent_meta.specs.Seen.{record_in, seen_intent};
+    ghost use Rattle.intent_meta.specs.views.Seen.{record_in, seen_intent};
 
     /// The record that these bytes are.
     pub(crate) fn of(bytes: &'a [u8]) -> IntentRef<'a>

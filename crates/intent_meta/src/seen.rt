@@ -13,7 +13,7 @@ pub struct IntentSeen {
 
 impl Model for IntentSeen {
     ghost use Rattle.mvcc_key.specs.Refusal.{IntentSeen};
-    ghost use Rattle.mvcc_key.specs.Seen.{time_of};
+    ghost use Rattle.mvcc_key.specs.views.Seen.{time_of};
 
     ghost Value = { IntentSeen };
 

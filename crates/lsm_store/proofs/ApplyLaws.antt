@@ -10,7 +10,7 @@ use Rattle.mvcc_key.specs.Lists.{in_order}
 use Rattle.mem_table.specs.Table.{state_of, newest_points}
 use Rattle.merge_cursor.specs.Merged.{joined, merged}
 use Rattle.lsm_store.specs.Shown.{shown, with_batch}
-use Rattle.lsm_store.specs.Changing.{is_same_value, is_change, changes_points}
+use Rattle.lsm_store.specs.views.Changing.{is_same_value, is_change, changes_points}
 use Rattle.lsm_store.proofs.KnownLaws.{newer, keep, known-named, known-append, known-in_order, known-filter, AreSorted, sorted-in_order, sorted-filter, same-known}
 
 -- by name

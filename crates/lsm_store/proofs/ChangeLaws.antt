@@ -12,7 +12,7 @@ use Rattle.mvcc_key.specs.Points.{Point, point_cmp}
 use Rattle.mem_table.specs.Table.{state_of, newest_points}
 use Rattle.lsm_store.specs.Parts.{NameState, state_cmp, set_state, cleared_state, newest_states, has_pair, has_name, changes, after_batch}
 use Rattle.lsm_store.specs.Shown.{shown, with_batch, pairs_of, state_of_point, parts_of, part_of, stage_of}
-use Rattle.lsm_store.specs.Changing.{is_same_value, is_change, changes_points}
+use Rattle.lsm_store.specs.views.Changing.{is_same_value, is_change, changes_points}
 use Rattle.lsm_store.proofs.KnownLaws.{newer, keep, passes, known, known-named, known-append, known-in_order, known-filter, known-behind, known-map, sorted-in_order, same-known, map-in_order}
 use Rattle.lsm_store.proofs.SoughtLaws.{same_test}
 use Rattle.lsm_store.proofs.ApplyLaws.{point_name, value_in, ArePoints, sorted-shown, value-keep, known-with_batch, known-kept, shown-applied}

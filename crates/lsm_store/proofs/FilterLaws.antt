@@ -4,7 +4,7 @@ use Rattle.std.specs.Prelude.{All, filter}
 use Rattle.std.specs.List.{AllByRecursion}
 use Rattle.std.proofs.lemmas.List.Elements.{All-from_recursion, recursion_from_All}
 use Rattle.mvcc_key.specs.Points.{Point, IsRising}
-use Rattle.mvcc_key.specs.SeenPoint.{point_of, points_of}
+use Rattle.mvcc_key.specs.views.SeenPoint.{point_of, points_of}
 use Rattle.mvcc_key.specs.declared.batch.PointOp.{PointOp}
 use Rattle.mvcc_key.proofs.PointLaws.{sorted-rising, rising-sorted}
 use Rattle.mem_table.specs.Entries.{IsStorable, AreEntries}

@@ -8,7 +8,7 @@ use Rattle.mem_table.specs.Table.{newest_points}
 use Rattle.mvcc_key.proofs.SortedLaws.{in_order-same}
 use Rattle.lsm_store.specs.Parts.{after_batch}
 use Rattle.lsm_store.specs.Shown.{shown, with_batch, parts_of, stage_of}
-use Rattle.lsm_store.specs.Changing.{changes_points}
+use Rattle.lsm_store.specs.views.Changing.{changes_points}
 use Rattle.lsm_store.proofs.ApplyLaws.{ArePoints, shown-after}
 use Rattle.lsm_store.proofs.ChangeLaws.{parts-after}
 

@@ -20,7 +20,7 @@ use Rattle.mvcc_key.proofs.PointLaws.{point_at-next, slice_get-count_below, sort
 use Rattle.mem_table.specs.Table.{state_of}
 use Rattle.merge_cursor.proofs.OrderLaws.{one_name, same_itself, back_less}
 use Rattle.merge_cursor.specs.Merged.{joined}
-use Rattle.lsm_store.specs.Changing.{is_same_value, is_change}
+use Rattle.lsm_store.specs.views.Changing.{is_same_value, is_change}
 use Rattle.lsm_store.proofs.KnownLaws.{newer, keep, known-above, known-append}
 
 -- two tests that hold together are the same

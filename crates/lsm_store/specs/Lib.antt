@@ -1,5 +1,3 @@
 pub mod Parts
 pub mod Shown
-pub mod Cursors
-pub mod Seen
-pub mod Changing
+pub mod views

@@ -2,19 +2,19 @@
 ghost use Rattle.std.specs.Prelude.{◌≡◌, ◌<◌, ◌∷◌, map, filter, false, Some, None, IsTrue, All};
 ghost use Rattle.std.specs.Option.{option_map, option_and_then};
 ghost use Rattle.mvcc_key.specs.Order.{Name, is_no_time};
-ghost use Rattle.mvcc_key.specs.Seen.{time_of};
+ghost use Rattle.mvcc_key.specs.views.Seen.{time_of};
 ghost use Rattle.mvcc_key.specs.Encoded.{IsName, name_in};
 ghost use Rattle.mvcc_key.specs.Points.{key_at};
-ghost use Rattle.mvcc_key.specs.SeenPoint.{point_of};
+ghost use Rattle.mvcc_key.specs.views.SeenPoint.{point_of};
 ghost use Rattle.mem_table.specs.Entries.{IsStorable};
-ghost use Rattle.mem_table.specs.Places.{IsPlaceOf};
+ghost use Rattle.mem_table.specs.views.Places.{IsPlaceOf};
 ghost use Rattle.mem_table.specs.Table.{state_of};
 ghost use Rattle.merge_cursor.specs.Merged.{joined};
 ghost use Rattle.lsm_store.specs.Shown.{shown};
-ghost use Rattle.lsm_store.specs.Changing.{is_same_value, is_change, changes_points};
+ghost use Rattle.lsm_store.specs.views.Changing.{is_same_value, is_change, changes_points};
 
 use mem_table::{MemPlace, MemTable};
-use mvcc_key::{Bytes, Cursor, PointOp, Steps, Timestamp, decode_key};
+use mvcc_key::{Bytes, Cursor, Looks, PointOp, Timestamp, decode_key};
 use run_block::Run;
 use std::marker::Brand;
 use std::sync::ledger::{Blank, Ledger};
@@ -66,29 +66,29 @@ pub(crate) fn changes_at<L: Ledger>(
 {
     match table.value_at(place) {
         Some(value) => !is_same(&op.value, value),
-        None => changes_runs(runs, op, &mut Steps::<L>::new(blank)),
+        None => changes_runs(runs, op, &mut Looks::<L>::new(blank)),
     }
 }
 
 /// The same for runs alone, from the newest to the oldest. Where the timestamp of the name is above all those of the runs, none of
 /// them sets it, and none is asked.
-fn changes_runs<L: Ledger>(runs: &[Run], op: &PointOp, steps: &mut Steps<L>) -> bool
+fn changes_runs<L: Ledger>(runs: &[Run], op: &PointOp, looks: &mut Looks<L>) -> bool
     requires { IsName op.now.key }
     ensures { result ≡ is_change op.now.value (state_of (name_in op.now.key) (joined (map (λ r. r.points) runs.now))) }
 {
     if are_below(runs, op.key.as_slice()) {
         return op.value.is_some();
     }
-    seek_change(runs, op, steps)
+    seek_change(runs, op, looks)
 }
 
 /// The same by seeks, one a run.
-fn seek_change<L: Ledger>(runs: &[Run], op: &PointOp, steps: &mut Steps<L>) -> bool
+fn seek_change<L: Ledger>(runs: &[Run], op: &PointOp, looks: &mut Looks<L>) -> bool
     requires { IsName op.now.key }
     ensures { result ≡ is_change op.now.value (state_of (name_in op.now.key) (joined (map (λ r. r.points) runs.now))) }
 {
     for run in runs {
-        if let Some(change) = changes_part(&mut run.cursor(), op, steps) {
+        if let Some(change) = changes_part(&mut run.cursor(), op, looks) {
             return change;
         }
     }
@@ -133,12 +133,12 @@ fn ends_before(run: &Run, ts: Timestamp) -> bool
 fn changes_part<C: Cursor, L: Ledger>(
     cursor: &mut C,
     op: &PointOp,
-    steps: &mut Steps<L>,
+    looks: &mut Looks<L>,
 ) -> Option<bool>
     requires { IsName op.now.key }
     ensures { result ≡ option_map (λ p. is_change op.now.value (Some p)) (state_of (name_in op.now.key) (C.points cursor.old)) }
 {
-    cursor.seek_ge(op.key.as_slice(), steps);
+    cursor.seek_ge(op.key.as_slice(), looks);
     if is_at(cursor, op.key.as_slice()) {
         Some(!is_same(&op.value, cursor.value()))
     } else {

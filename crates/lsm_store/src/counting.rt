@@ -2,10 +2,10 @@
 ghost use Rattle.std.specs.Prelude.{◌≡◌, ◌<◌, length, filter, not, is_some};
 ghost use Rattle.lsm_store.specs.Parts.{part_shape};
 ghost use Rattle.lsm_store.specs.Shown.{part_of};
-ghost use Rattle.lsm_store.specs.Seen.{seen_shape};
+ghost use Rattle.lsm_store.specs.views.Seen.{seen_shape};
 
 use crate::PartShape;
-use mvcc_key::{Cursor, Steps};
+use mvcc_key::{Cursor, Looks};
 use std::marker::Brand;
 use std::sync::ledger::{Blank, Ledger};
 
@@ -31,10 +31,10 @@ fn count_clears<C: Cursor, L: Ledger>(cursor: &mut C, count: usize, blank: Blank
     requires some { 0 < blank.parts }
     ensures { result ≡ length (filter (λ p. not (is_some p.value)) (C.points cursor.old)) }
 {
-    let mut steps = Steps::<L>::new(blank);
+    let mut looks = Looks::<L>::new(blank);
     let mut clears = 0;
     for _ in 0..count {
-        cursor.next(&mut steps);
+        cursor.next(&mut looks);
         if cursor.value().is_none() {
             clears += 1;
         }
@@ -53,10 +53,10 @@ fn sum_lens<C: Cursor, L: Ledger>(cursor: &mut C, count: usize, blank: Blank) ->
     requires parts { blank.parts ≡ L.parts }
     requires some { 0 < blank.parts }
 {
-    let mut steps = Steps::<L>::new(blank);
+    let mut looks = Looks::<L>::new(blank);
     let mut total: usize = 0;
     for _ in 0..count {
-        cursor.next(&mut steps);
+        cursor.next(&mut looks);
         let entry = field_len(cursor.key()).saturating_add(field_len(cursor.value()));
         total = total.saturating_add(entry).saturating_add(1);
     }

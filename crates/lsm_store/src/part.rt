@@ -3,7 +3,7 @@ ghost use Rattle.std.specs.Prelude.{true};
 
 use mem_table::MemCursor;
 use merge_cursor::VisibleCursor;
-use mvcc_key::{Cursor, Steps};
+use mvcc_key::{Cursor, Looks};
 use run_block::RunCursor;
 use std::sync::ledger::Ledger;
 
@@ -20,7 +20,7 @@ pub enum PartCursor<'a> {
 pub type StoreCursor<'a> = VisibleCursor<PartCursor<'a>>;
 
 impl Cursor for PartCursor<'_> {
-    ghost use Rattle.lsm_store.specs.Cursors.{points_at, place_at, rising_at, encodable_at, in_range_at};
+    ghost use Rattle.lsm_store.specs.views.Cursors.{points_at, place_at, rising_at, encodable_at, in_range_at};
 
     ghost points = { points_at };
 
@@ -34,31 +34,31 @@ impl Cursor for PartCursor<'_> {
 
     ghost in_range = { in_range_at };
 
-    fn seek_ge<L: Ledger>(&mut self, key: &[u8], steps: &mut Steps<L>) {
+    fn seek_ge<L: Ledger>(&mut self, key: &[u8], looks: &mut Looks<L>) {
         match self {
-            PartCursor::Memory(cursor) => cursor.seek_ge(key, steps),
-            PartCursor::Run(cursor) => cursor.seek_ge(key, steps),
+            PartCursor::Memory(cursor) => cursor.seek_ge(key, looks),
+            PartCursor::Run(cursor) => cursor.seek_ge(key, looks),
         }
     }
 
-    fn seek_lt<L: Ledger>(&mut self, key: &[u8], steps: &mut Steps<L>) {
+    fn seek_lt<L: Ledger>(&mut self, key: &[u8], looks: &mut Looks<L>) {
         match self {
-            PartCursor::Memory(cursor) => cursor.seek_lt(key, steps),
-            PartCursor::Run(cursor) => cursor.seek_lt(key, steps),
+            PartCursor::Memory(cursor) => cursor.seek_lt(key, looks),
+            PartCursor::Run(cursor) => cursor.seek_lt(key, looks),
         }
     }
 
-    fn next<L: Ledger>(&mut self, steps: &mut Steps<L>) {
+    fn next<L: Ledger>(&mut self, looks: &mut Looks<L>) {
         match self {
-            PartCursor::Memory(cursor) => cursor.next(steps),
-            PartCursor::Run(cursor) => cursor.next(steps),
+            PartCursor::Memory(cursor) => cursor.next(looks),
+            PartCursor::Run(cursor) => cursor.next(looks),
         }
     }
 
-    fn prev<L: Ledger>(&mut self, steps: &mut Steps<L>) {
+    fn prev<L: Ledger>(&mut self, looks: &mut Looks<L>) {
         match self {
-            PartCursor::Memory(cursor) => cursor.prev(steps),
-            PartCursor::Run(cursor) => cursor.prev(steps),
+            PartCursor::Memory(cursor) => cursor.prev(looks),
+            PartCursor::Run(cursor) => cursor.prev(looks),
         }
     }
 

@@ -1,11 +1,11 @@
 //! The store of parts.
 ghost use Rattle.std.specs.Prelude.{◌≡◌, ◌≤◌, [], ◌∷◌, map, All, false, IsOk, IfOk, OnOk, OnErr};
-ghost use Rattle.mvcc_key.specs.SeenPoint.{point_of, points_of};
+ghost use Rattle.mvcc_key.specs.views.SeenPoint.{point_of, points_of};
 ghost use Rattle.mem_table.specs.Entries.{IsBatch, IsStorable};
 ghost use Rattle.lsm_store.specs.Parts.{after_batch, flushed, compacted, layout};
 ghost use Rattle.lsm_store.specs.Shown.{no_points, shown, with_batch, parts_of, stage_of};
-ghost use Rattle.lsm_store.specs.Changing.{changes_points};
-ghost use Rattle.lsm_store.specs.Seen.{seen_shape};
+ghost use Rattle.lsm_store.specs.views.Changing.{changes_points};
+ghost use Rattle.lsm_store.specs.views.Seen.{seen_shape};
 
 use crate::changing::{changes_at, retain_changes};
 use crate::counting::{entries_len, shape_of};
@@ -13,7 +13,7 @@ use crate::uniting::unite;
 use crate::{PartCursor, PartShape, StoreCursor};
 use mem_table::MemTable;
 use merge_cursor::{MergeCursor, VisibleCursor};
-use mvcc_key::{Batch, Cursor, Items, OutOfMemory, PointOp};
+use mvcc_key::{Batch, Cursor, Elements, OutOfMemory, PointOp};
 use run_block::{Room, Run, collect};
 use std::alloc::Global;
 use std::marker::{Brand, Model};
@@ -40,7 +40,7 @@ impl Model for Store {
 }
 
 impl Store {
-    ghost use Rattle.merge_cursor.specs.SeenVisible.{lists_behind, StandsOnParts};
+    ghost use Rattle.merge_cursor.specs.views.SeenVisible.{lists_behind, StandsOnParts};
 
     /// A store that holds nothing. This takes no memory.
     pub fn new(alloc: Global) -> Store
@@ -68,7 +68,7 @@ impl Store {
         }
         retain_changes(&mut ops, &self.table, &self.runs);
         self.table.apply(Batch {
-            points: Items::of(ops),
+            points: Elements::from_vec(ops),
             ranges,
         })
     }

@@ -4,7 +4,7 @@ ghost use Rattle.mem_table.specs.Entries.{IsBatch};
 mod rising;
 
 use super::*;
-use mvcc_key::{Batch, Bytes, Cursor, OutOfMemory, PointOp, Steps, Timestamp, encode_key};
+use mvcc_key::{Batch, Bytes, Cursor, Looks, OutOfMemory, PointOp, Timestamp, encode_key};
 use rising::Rising;
 use std::alloc::Global;
 use std::marker::Brand;
@@ -24,7 +24,7 @@ enum Step {
     Compact(u64),
 }
 
-/// Steps, each with the shapes of the parts after it, and what is seen at the end.
+/// Looks, each with the shapes of the parts after it, and what is seen at the end.
 type Case = (&'static [(Step, &'static [Shape])], &'static [State]);
 
 fn key_of(alloc: Global, key: &[u8], wall: u64) -> Result<Vec<u8>, OutOfMemory> {
@@ -40,7 +40,7 @@ fn op_of(alloc: Global, state: State) -> Result<PointOp, OutOfMemory> {
         Some(bytes) => Some(Bytes::copy(alloc, bytes)?),
         None => None,
     };
-    let key = Bytes::of(key_of(alloc, state.0, state.1)?);
+    let key = Bytes::from_vec(key_of(alloc, state.0, state.1)?);
     Ok(PointOp { key, value })
 }
 
@@ -93,20 +93,20 @@ fn shows<L: Ledger>(
     requires parts { blank.parts ≡ L.parts }
     requires some { 0 < blank.parts }
 {
-    let mut steps = Steps::<L>::new(blank);
+    let mut looks = Looks::<L>::new(blank);
     let mut cursor = store.cursor()?;
     let mut same = is_at(alloc, &cursor, None)?;
     for state in states {
-        cursor.next(&mut steps);
+        cursor.next(&mut looks);
         same = is_at(alloc, &cursor, Some(*state))? && same;
     }
-    cursor.next(&mut steps);
+    cursor.next(&mut looks);
     same = is_at(alloc, &cursor, None)? && same;
     for state in states.iter().rev() {
-        cursor.prev(&mut steps);
+        cursor.prev(&mut looks);
         same = is_at(alloc, &cursor, Some(*state))? && same;
     }
-    cursor.prev(&mut steps);
+    cursor.prev(&mut looks);
     Ok(is_at(alloc, &cursor, None)? && same)
 }
 
@@ -197,9 +197,9 @@ const ONE_BY_ONE: Case = (
 
 #[test]
 fn parts_come_and_go(rt: HostRuntime) -> Result<(), Fail> {
-    for (steps, states) in [CLEARED, OLDEST, UNCHANGED, REPLACED, ONE_BY_ONE] {
+    for (looks, states) in [CLEARED, OLDEST, UNCHANGED, REPLACED, ONE_BY_ONE] {
         let mut store = Store::new(rt.alloc());
-        for (step, shapes) in steps {
+        for (step, shapes) in looks {
             make(rt.alloc(), &mut store, *step)?;
             assert!(rt; has_shapes(&store, shapes)?);
         }

@@ -12,7 +12,7 @@ use Rattle.std.proofs.lemmas.List.{map-append}
 use Rattle.std.proofs.lemmas.List.Elements.{All-from_recursion, All-head, All-tail, All-map, All-weaker}
 use Rattle.mvcc_key.specs.Lists.{put_in_order, in_order}
 use Rattle.mvcc_key.specs.Points.{Point, point_cmp, AreEncodable}
-use Rattle.mvcc_key.specs.SeenPoint.{point_of, points_of, AreNamed}
+use Rattle.mvcc_key.specs.views.SeenPoint.{point_of, points_of, AreNamed}
 use Rattle.mvcc_key.specs.declared.batch.PointOp.{PointOp}
 use Rattle.mvcc_key.proofs.OrderLaws.{name_cmp-total}
 use Rattle.mvcc_key.proofs.SortedLaws.{in_order-sorted}
@@ -20,7 +20,7 @@ use Rattle.mvcc_key.proofs.PointLaws.{sorted-rising, rising-sorted}
 use Rattle.mvcc_key.proofs.SeenPointLaws.{encodable-named}
 use Rattle.mvcc_key.proofs.NamedLaws.{named_range}
 use Rattle.mem_table.specs.Entries.{IsStorable, AreEntries, IsStoredPoint}
-use Rattle.mem_table.specs.Places.{name_of_op, op_cmp, newest_ops}
+use Rattle.mem_table.specs.views.Places.{name_of_op, op_cmp, newest_ops}
 use Rattle.mem_table.proofs.OrderedLaws.{each_at, each_append, each_take, each_front, sorted_take, sorted_front, each-in_order}
 
 -- the order of operations is total

@@ -9,7 +9,7 @@ use Rattle.std.proofs.lemmas.Option.{slice_get_within}
 use Rattle.mvcc_key.specs.Encoded.{name_in}
 use Rattle.mvcc_key.specs.declared.batch.PointOp.{PointOp}
 use Rattle.mem_table.specs.Entries.{AreEntries}
-use Rattle.mem_table.specs.Places.{op_cmp, newest_ops, listed, AreNumbersOf, IsStored, IsRangeOf}
+use Rattle.mem_table.specs.views.Places.{op_cmp, newest_ops, listed, AreNumbersOf, IsStored, IsRangeOf}
 use Rattle.mem_table.proofs.OrderedLaws.{each_front}
 use Rattle.mvcc_key.proofs.SortedLaws.{in_order-same}
 use Rattle.mem_table.proofs.EntryLaws.{each_of_all, sorted-entries, entries-take, entries-front}

@@ -9,7 +9,7 @@ use Rattle.mvcc_key.specs.Lists.{put_in_order}
 use Rattle.mvcc_key.specs.Encoded.{name_in}
 use Rattle.mvcc_key.specs.declared.batch.PointOp.{PointOp}
 use Rattle.mem_table.specs.Entries.{AreEntries}
-use Rattle.mem_table.specs.Places.{op_cmp, newest_ops, listed, AreNumbersOf, IsStored, IsRangeOf}
+use Rattle.mem_table.specs.views.Places.{op_cmp, newest_ops, listed, AreNumbersOf, IsStored, IsRangeOf}
 use Rattle.mem_table.proofs.OrderedLaws.{each_front, put-range}
 use Rattle.mvcc_key.proofs.SortedLaws.{in_order-same}
 use Rattle.mem_table.proofs.EntryLaws.{op_cmp-total, each_of_all, sorted-entries}

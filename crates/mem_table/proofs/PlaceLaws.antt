@@ -12,10 +12,10 @@ use Rattle.std.proofs.lemmas.List.{length-map, take-map, drop-map}
 use Rattle.std.proofs.lemmas.Option.{slice_get-map}
 use Rattle.mvcc_key.specs.Order.{Name, name_cmp}
 use Rattle.mvcc_key.specs.Points.{Point}
-use Rattle.mvcc_key.specs.SeenPoint.{point_of, points_of}
+use Rattle.mvcc_key.specs.views.SeenPoint.{point_of, points_of}
 use Rattle.mvcc_key.specs.declared.batch.PointOp.{PointOp}
 use Rattle.mvcc_key.proofs.OrderLaws.{name_cmp-total}
-use Rattle.mem_table.specs.Places.{IsRangeBy, IsRangeOf}
+use Rattle.mem_table.specs.views.Places.{IsRangeBy, IsRangeOf}
 use Rattle.mem_table.specs.Table.{state_of}
 
 -- ---- the range of a name among operations and among their points

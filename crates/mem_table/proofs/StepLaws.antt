@@ -6,7 +6,7 @@ use Rattle.std.proofs.lemmas.Slice.{between_is}
 use Rattle.mvcc_key.specs.Encoded.{name_in}
 use Rattle.mvcc_key.specs.declared.batch.PointOp.{PointOp}
 use Rattle.mem_table.specs.Entries.{AreEntries}
-use Rattle.mem_table.specs.Places.{newest_ops, IsRangeOf}
+use Rattle.mem_table.specs.views.Places.{newest_ops, IsRangeOf}
 use Rattle.mem_table.proofs.OrderedLaws.{IsRange, newest-last, newest_no_shorter}
 use Rattle.mem_table.proofs.EntryLaws.{op_cmp-total, sorted-entries, entries-take}
 use Rattle.mem_table.proofs.RangeLaws.{range-op}

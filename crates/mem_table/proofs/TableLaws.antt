@@ -1,10 +1,10 @@
 -- A memory table after newer operations.
 use Rattle.std.proofs.Common.{◌≡◌, List, [], ◌++◌, sym, ap, subst, ◌∙◌, append-nil}
-use Rattle.mvcc_key.specs.SeenPoint.{points_of}
+use Rattle.mvcc_key.specs.views.SeenPoint.{points_of}
 use Rattle.mvcc_key.specs.declared.batch.PointOp.{PointOp}
 use Rattle.mvcc_key.specs.declared.batch.RangeOp.{RangeOp}
 use Rattle.mvcc_key.specs.declared.batch.Batch.{Batch}
-use Rattle.mem_table.specs.Places.{newest_ops}
+use Rattle.mem_table.specs.views.Places.{newest_ops}
 use Rattle.mem_table.specs.Table.{Table, newest_points, after_batch, ShowsNewest}
 use Rattle.mem_table.proofs.EntryLaws.{points-newest}
 use Rattle.mem_table.proofs.StateLaws.{shows-newest}

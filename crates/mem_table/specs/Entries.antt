@@ -5,7 +5,7 @@ use Rattle.mvcc_key.specs.Limits.{max_key_length, max_stored_length}
 use Rattle.mvcc_key.specs.Order.{is_in_range}
 use Rattle.mvcc_key.specs.Encoded.{IsName, name_in}
 use Rattle.mvcc_key.specs.Points.{Point, IsRising}
-use Rattle.mvcc_key.specs.SeenPoint.{points_of}
+use Rattle.mvcc_key.specs.views.SeenPoint.{points_of}
 use Rattle.mvcc_key.specs.declared.batch.PointOp.{PointOp}
 use Rattle.mvcc_key.specs.declared.batch.Batch.{Batch}
 

@@ -1,4 +1,3 @@
 pub mod Entries
 pub mod Table
-pub mod Places
-pub mod Seen
+pub mod views

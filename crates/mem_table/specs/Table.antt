@@ -3,7 +3,7 @@ use Rattle.std.specs.Prelude.{◌≡◌, List, [], ◌∷◌, ◌++◌, find, Op
 use Rattle.mvcc_key.specs.Lists.{in_order}
 use Rattle.mvcc_key.specs.Order.{Name, is_same_name}
 use Rattle.mvcc_key.specs.Points.{Point, point_cmp}
-use Rattle.mvcc_key.specs.SeenPoint.{points_of}
+use Rattle.mvcc_key.specs.views.SeenPoint.{points_of}
 use Rattle.mvcc_key.specs.declared.batch.PointOp.{PointOp}
 use Rattle.mvcc_key.specs.declared.batch.RangeOp.{RangeOp}
 use Rattle.mvcc_key.specs.declared.batch.Batch.{Batch}

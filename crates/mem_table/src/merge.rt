@@ -2,7 +2,7 @@
 ghost use Rattle.std.specs.Prelude.{ℕ, ◌≡◌, ◌≤◌, ◌<◌, ◌+◌, ◌-◌, [], ◌∷◌, ◌++◌, ◌^◌, length, take, drop, slice_range, slice_get, Some, IsOk, OnOk, OnErr, vec_len, vec_capacity};
 ghost use Rattle.mvcc_key.specs.Encoded.{name_in};
 ghost use Rattle.mem_table.specs.Entries.{AreEntries};
-ghost use Rattle.mem_table.specs.Places.{newest_ops, listed, AreNumbersOf, IsRangeOf, IsStored};
+ghost use Rattle.mem_table.specs.views.Places.{newest_ops, listed, AreNumbersOf, IsRangeOf, IsStored};
 
 use crate::place::range_of;
 use mvcc_key::{OutOfMemory, PointOp};

@@ -3,7 +3,7 @@ ghost use Rattle.std.specs.Prelude.{◌≡◌, ◌<◌, length, slice_get, Some,
 ghost use Rattle.mvcc_key.specs.KeyFormat.{name_of};
 ghost use Rattle.mvcc_key.specs.Encoded.{name_in};
 ghost use Rattle.mem_table.specs.Entries.{AreEntries};
-ghost use Rattle.mem_table.specs.Places.{listed, AreNumbersOf, IsRangeOf};
+ghost use Rattle.mem_table.specs.views.Places.{listed, AreNumbersOf, IsRangeOf};
 
 use mvcc_key::{PointOp, cmp_encoded};
 use std::cmp::Ordering;

@@ -5,9 +5,9 @@ ghost use Rattle.mvcc_key.specs.Order.{Name};
 ghost use Rattle.mvcc_key.specs.KeyFormat.{name_of};
 ghost use Rattle.mvcc_key.specs.Encoded.{name_in};
 ghost use Rattle.mvcc_key.specs.Points.{AreEncodable};
-ghost use Rattle.mvcc_key.specs.SeenPoint.{points_of};
+ghost use Rattle.mvcc_key.specs.views.SeenPoint.{points_of};
 ghost use Rattle.mem_table.specs.Entries.{AreEntries, IsStorable};
-ghost use Rattle.mem_table.specs.Places.{listed, AreNumbersOf};
+ghost use Rattle.mem_table.specs.views.Places.{listed, AreNumbersOf};
 
 use crate::MemPlace;
 use crate::merge::{merge, put_one};
@@ -33,8 +33,8 @@ pub struct SortedOps {
 }
 
 impl SortedOps {
-    ghost use Rattle.mem_table.specs.Places.{newest_ops, IsPlaceOf, IsPlace};
-    ghost use Rattle.mem_table.specs.Seen.{ops_held, points_held};
+    ghost use Rattle.mem_table.specs.views.Places.{newest_ops, IsPlaceOf, IsPlace};
+    ghost use Rattle.mem_table.specs.views.Seen.{ops_held, points_held};
     ghost use Rattle.mem_table.specs.Table.{state_of};
 
     /// No operations. This takes no memory.
@@ -98,7 +98,7 @@ impl SortedOps {
 }
 
 impl SortedPairs for SortedOps {
-    ghost use Rattle.mem_table.specs.Seen.{points_held};
+    ghost use Rattle.mem_table.specs.views.Seen.{points_held};
 
     ghost points = { points_held };
 

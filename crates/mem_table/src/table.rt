@@ -5,9 +5,9 @@ ghost use Rattle.mvcc_key.specs.Order.{Name};
 ghost use Rattle.mvcc_key.specs.KeyFormat.{name_of};
 ghost use Rattle.mvcc_key.specs.Encoded.{name_in};
 ghost use Rattle.mvcc_key.specs.Points.{IsRising};
-ghost use Rattle.mvcc_key.specs.SeenPoint.{points_of};
+ghost use Rattle.mvcc_key.specs.views.SeenPoint.{points_of};
 ghost use Rattle.mem_table.specs.Entries.{IsBatch, IsStorable, IsStoredPoint};
-ghost use Rattle.mem_table.specs.Places.{IsPlaceOf, IsPlace};
+ghost use Rattle.mem_table.specs.views.Places.{IsPlaceOf, IsPlace};
 ghost use Rattle.mem_table.specs.Table.{empty_table, batch_of_one, after_batch, state_of, ShowsNewest};
 
 use crate::{MemPlace, SortedOps};
@@ -30,7 +30,7 @@ pub struct MemTable {
 
 impl Model for MemTable {
     ghost use Rattle.mem_table.specs.Table.{Table};
-    ghost use Rattle.mem_table.specs.Seen.{points_held};
+    ghost use Rattle.mem_table.specs.views.Seen.{points_held};
 
     ghost Value = { Table };
 

@@ -5,7 +5,7 @@ mod rising;
 
 use super::*;
 use mvcc_key::{
-    Batch, Bytes, Cursor, OutOfMemory, PointOp, Steps, Timestamp, decode_key, encode_key,
+    Batch, Bytes, Cursor, Looks, OutOfMemory, PointOp, Timestamp, decode_key, encode_key,
 };
 use rising::{Rising, is_storable};
 use std::alloc::Global;
@@ -29,7 +29,7 @@ fn op_of(alloc: Global, state: State) -> Result<PointOp, OutOfMemory> {
         Some(bytes) => Some(Bytes::copy(alloc, bytes)?),
         None => None,
     };
-    let key = Bytes::of(key_of(alloc, state.0, state.1)?);
+    let key = Bytes::from_vec(key_of(alloc, state.0, state.1)?);
     Ok(PointOp { key, value })
 }
 
@@ -92,20 +92,20 @@ fn walks<L: Ledger>(
     requires parts { blank.parts ≡ L.parts }
     requires some { 0 < blank.parts }
 {
-    let mut steps = Steps::<L>::new(blank);
+    let mut looks = Looks::<L>::new(blank);
     let mut cursor = table.cursor();
     let mut walked = is_at(alloc, &cursor, None)?;
     for state in states {
-        cursor.next(&mut steps);
+        cursor.next(&mut looks);
         walked = is_at(alloc, &cursor, Some(*state))? && walked;
     }
-    cursor.next(&mut steps);
+    cursor.next(&mut looks);
     walked = is_at(alloc, &cursor, None)? && walked;
     for state in states.iter().rev() {
-        cursor.prev(&mut steps);
+        cursor.prev(&mut looks);
         walked = is_at(alloc, &cursor, Some(*state))? && walked;
     }
-    cursor.prev(&mut steps);
+    cursor.prev(&mut looks);
     Ok(is_at(alloc, &cursor, None)? && walked)
 }
 
@@ -228,15 +228,15 @@ fn finds<L: Ledger>(
     requires parts { blank.parts ≡ L.parts }
     requires some { 0 < blank.parts }
 {
-    let mut steps = Steps::<L>::new(blank);
+    let mut looks = Looks::<L>::new(blank);
     let mut cursor = table.cursor();
     let key = key_of(alloc, sought.0, sought.1)?;
     if decode_key(key.as_slice()).is_err() {
         return Ok(false);
     }
-    cursor.seek_ge(key.as_slice(), &mut steps);
+    cursor.seek_ge(key.as_slice(), &mut looks);
     let found = is_at(alloc, &cursor, from)?;
-    cursor.seek_lt(key.as_slice(), &mut steps);
+    cursor.seek_lt(key.as_slice(), &mut looks);
     Ok(is_at(alloc, &cursor, below)? && found)
 }
 

@@ -8,7 +8,7 @@ use Rattle.std.specs.Ordering.{is_lt, is_le, is_eq}
 use Rattle.mvcc_key.specs.Order.{Name, name_cmp, is_same_name}
 use Rattle.mvcc_key.specs.Points.{Point}
 use Rattle.mvcc_key.proofs.OrderLaws.{name_cmp-total, name_cmp-IsAntisymmetric}
-use Rattle.merge_cursor.specs.Standing.{cut_of, leads}
+use Rattle.merge_cursor.specs.views.Standing.{cut_of, leads}
 use Rattle.merge_cursor.proofs.OrderLaws.{less_of, back_greater, back_less, one_name}
 use Rattle.merge_cursor.proofs.LeadingLaws.{refused}
 use Rattle.merge_cursor.proofs.CutLaws.{IsCut, IsFront, IsLast}

@@ -14,8 +14,8 @@ use Rattle.mvcc_key.specs.Order.{Name, name_cmp}
 use Rattle.mvcc_key.specs.Points.{Point, IsRising, point_at, count_below}
 use Rattle.mvcc_key.proofs.OrderLaws.{name_cmp-total}
 use Rattle.mvcc_key.proofs.PointLaws.{rising_rest, rising_first, point_at-next, point_at-none}
-use Rattle.merge_cursor.specs.Standing.{cut_of, count_in}
-use Rattle.merge_cursor.specs.Moves.{cut_past, cut_before}
+use Rattle.merge_cursor.specs.views.Standing.{cut_of, count_in}
+use Rattle.merge_cursor.specs.views.Moves.{cut_past, cut_before}
 use Rattle.merge_cursor.proofs.OrderLaws.{less_of, back_greater}
 use Rattle.merge_cursor.proofs.LeadingLaws.{refused}
 

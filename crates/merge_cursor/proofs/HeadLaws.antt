@@ -14,10 +14,10 @@ use Rattle.mvcc_key.specs.Points.{Point, AreEncodable, point_at, key_at}
 use Rattle.mvcc_key.proofs.KeyFormatLaws.{name_of-encoded_name}
 use Rattle.mvcc_key.proofs.NamedLaws.{named-encoded}
 use Rattle.mvcc_key.proofs.PointLaws.{point_at-next}
-use Rattle.merge_cursor.specs.Moves.{is_at}
+use Rattle.merge_cursor.specs.views.Moves.{is_at}
 use Rattle.merge_cursor.proofs.OrderLaws.{same_itself, one_name}
 use Rattle.merge_cursor.proofs.LeadingLaws.{refused}
-use Rattle.merge_cursor.specs.Standing.{Standing, standings, head, heads, head_of, leads}
+use Rattle.merge_cursor.specs.views.Standing.{Standing, standings, head, heads, head_of, leads}
 
 -- the point at which a part of a number stands
 pub head_of-part : {X : Type 0} (points : X → List Point) (place : X → ℕ) (is_part : X → Bool) (parts : List X) (i : ℕ) (x : X) → slice_get parts i ≡ Some x

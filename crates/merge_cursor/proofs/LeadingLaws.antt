@@ -7,7 +7,7 @@ use Rattle.std.proofs.lemmas.Option.{slice_get_past}
 use Rattle.std.proofs.lemmas.Bool.{cases_order}
 use Rattle.mvcc_key.specs.Order.{is_same_name}
 use Rattle.mvcc_key.specs.Points.{Point}
-use Rattle.merge_cursor.specs.Standing.{head_of, leads, IsLeading}
+use Rattle.merge_cursor.specs.views.Standing.{head_of, leads, IsLeading}
 use Rattle.merge_cursor.proofs.OrderLaws.{precedes-trans, precedes-itself, one_name}
 
 -- what comes before one that comes before a third comes before it

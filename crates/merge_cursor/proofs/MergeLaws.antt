@@ -8,12 +8,12 @@ use Rattle.std.proofs.lemmas.List.{length-map, take_at}
 use Rattle.std.proofs.lemmas.List.Elements.{All-head, All-tail, All-from_recursion}
 use Rattle.std.proofs.lemmas.List.Sums.{sum_by-cons}
 use Rattle.mvcc_key.specs.Order.{Name}
-use Rattle.mvcc_key.specs.Looks.{bits}
+use Rattle.mvcc_key.specs.views.Looks.{bits}
 use Rattle.mvcc_key.specs.Points.{Point, IsRising, AreEncodable, point_at, count_below}
 use Rattle.merge_cursor.specs.Merged.{merged, seek_looks, entries_below, entries_before}
-use Rattle.merge_cursor.specs.Standing.{Standing, standing, standings, lists_of, heads, head_of, cut_of, count_in, positioned, IsLeading, IsSettled, merged_place, place_in-le}
+use Rattle.merge_cursor.specs.views.Standing.{Standing, standing, standings, lists_of, heads, head_of, cut_of, count_in, positioned, IsLeading, IsSettled, merged_place, place_in-le}
 use Rattle.merge_cursor.specs.declared.moves.Move.TheVariants.{SeekGe}
-use Rattle.merge_cursor.specs.Moves.{looks_of, cut_past}
+use Rattle.merge_cursor.specs.views.Moves.{looks_of, cut_past}
 use Rattle.merge_cursor.proofs.CutLaws.{IsCut, count_in-below, count_in-all, count_in-none}
 use Rattle.merge_cursor.proofs.PassLaws.{each_of_all}
 use Rattle.merge_cursor.proofs.HeadLaws.{head_of-part}

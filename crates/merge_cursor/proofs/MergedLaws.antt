@@ -16,7 +16,7 @@ use Rattle.mvcc_key.specs.Points.{Point, point_cmp, IsRising, AreEncodable}
 use Rattle.mvcc_key.proofs.OrderLaws.{name_cmp-total}
 use Rattle.mvcc_key.proofs.PointLaws.{rising_rest, rising_first}
 use Rattle.merge_cursor.specs.Merged.{joined, merged, merged-rising}
-use Rattle.merge_cursor.specs.Standing.{Standing, lists_of, has_name, count_in}
+use Rattle.merge_cursor.specs.views.Standing.{Standing, lists_of, has_name, count_in}
 use Rattle.merge_cursor.proofs.OrderLaws.{equal_of, same_itself, back_greater}
 use Rattle.merge_cursor.proofs.CutLaws.{IsPlaced, placed, below-IsCut, up_to-IsCut}
 

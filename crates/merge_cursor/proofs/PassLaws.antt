@@ -7,9 +7,9 @@ use Rattle.std.proofs.lemmas.List.Elements.{All-head, All-tail, All-from_recursi
 use Rattle.std.proofs.lemmas.List.Sums.{sum_by-append, sum_by-cons}
 use Rattle.mvcc_key.specs.Order.{Name}
 use Rattle.mvcc_key.specs.Points.{Point, point_at}
-use Rattle.merge_cursor.specs.Standing.{Standing, standing, standings, head, heads, head_of}
+use Rattle.merge_cursor.specs.views.Standing.{Standing, standing, standings, head, heads, head_of}
 use Rattle.merge_cursor.specs.declared.moves.Move.{Move}
-use Rattle.merge_cursor.specs.Moves.{moved, is_at, passed, looks_of, passing_looks}
+use Rattle.merge_cursor.specs.views.Moves.{moved, is_at, passed, looks_of, passing_looks}
 use Rattle.merge_cursor.proofs.OrderLaws.{same_itself}
 use Rattle.merge_cursor.proofs.HeadLaws.{head_of-part}
 

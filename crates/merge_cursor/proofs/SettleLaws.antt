@@ -11,7 +11,7 @@ use Rattle.std.proofs.lemmas.List.Sums.{sum_by-cons}
 use Rattle.mvcc_key.specs.Order.{Name, is_same_name}
 use Rattle.mvcc_key.specs.Points.{Point, IsRising, point_at}
 use Rattle.merge_cursor.specs.Merged.{merged}
-use Rattle.merge_cursor.specs.Standing.{Standing, lists_of, head, heads, head_of, cut_of, count_in, place_in, positioned, leads, IsLeading, has_name, IsSettled, merged_place}
+use Rattle.merge_cursor.specs.views.Standing.{Standing, lists_of, head, heads, head_of, cut_of, count_in, place_in, positioned, leads, IsLeading, has_name, IsSettled, merged_place}
 use Rattle.merge_cursor.proofs.CutLaws.{IsCut, IsFront, IsLast, front-at, last-at, count_in-agree}
 use Rattle.merge_cursor.proofs.AgreeLaws.{InFront, IsBehind, agree-front, agree-last, lacks-front, lacks-last}
 use Rattle.merge_cursor.proofs.MergedLaws.{each_of_index, each_at, each-merged}

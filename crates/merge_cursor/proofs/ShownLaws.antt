@@ -12,9 +12,9 @@ use Rattle.mvcc_key.specs.Order.{Name, name_cmp, is_same_name}
 use Rattle.mvcc_key.specs.Points.{Point, IsRising, point_at}
 use Rattle.mvcc_key.proofs.PointLaws.{point_at-next}
 use Rattle.merge_cursor.specs.Merged.{merged}
-use Rattle.merge_cursor.specs.Standing.{Standing, standings, lists_of, head, heads, head_of, cut_of, count_in, place_in, positioned, has_name, IsSettled, merged_place}
+use Rattle.merge_cursor.specs.views.Standing.{Standing, standings, lists_of, head, heads, head_of, cut_of, count_in, place_in, positioned, has_name, IsSettled, merged_place}
 use Rattle.merge_cursor.specs.declared.moves.Move.TheVariants.{Next, Prev}
-use Rattle.merge_cursor.specs.Moves.{moved, is_at, passed, passing_looks, cut_past, cut_before}
+use Rattle.merge_cursor.specs.views.Moves.{moved, is_at, passed, passing_looks, cut_past, cut_before}
 use Rattle.merge_cursor.proofs.OrderLaws.{one_name}
 use Rattle.merge_cursor.proofs.PassLaws.{each_of_all}
 use Rattle.merge_cursor.proofs.LeadingLaws.{refused}

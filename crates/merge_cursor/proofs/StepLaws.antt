@@ -13,9 +13,9 @@ use Rattle.mvcc_key.specs.Encoded.{name_in}
 use Rattle.mvcc_key.specs.Points.{Point, IsRising, AreEncodable, point_at}
 use Rattle.mvcc_key.proofs.PointLaws.{point_at-some, point_at-none}
 use Rattle.merge_cursor.specs.Merged.{joined, merged}
-use Rattle.merge_cursor.specs.Standing.{Standing, lists_of, head, heads, head_of, cut_of, count_in, place_in, positioned, has_name, IsLeading, IsSettled, merged_place}
+use Rattle.merge_cursor.specs.views.Standing.{Standing, lists_of, head, heads, head_of, cut_of, count_in, place_in, positioned, has_name, IsLeading, IsSettled, merged_place}
 use Rattle.merge_cursor.specs.declared.moves.Move.TheVariants.{SeekGe, SeekLt, Next, Prev}
-use Rattle.merge_cursor.specs.Moves.{moved, takes_look, is_at, passed, passing_looks, cut_past, cut_before}
+use Rattle.merge_cursor.specs.views.Moves.{moved, takes_look, is_at, passed, passing_looks, cut_past, cut_before}
 use Rattle.merge_cursor.proofs.PassLaws.{each_of_all}
 use Rattle.merge_cursor.proofs.LeadingLaws.{head_of-past}
 use Rattle.merge_cursor.proofs.CutLaws.{IsCut, count_in-below}

@@ -12,7 +12,7 @@ use Rattle.std.proofs.lemmas.Option.{slice_get_cases, slice_get_within}
 use Rattle.mvcc_key.specs.Order.{Name, is_in_range}
 use Rattle.mvcc_key.specs.Points.{Point, point_cmp, IsRising, AreEncodable, point_at, value_at, count_below}
 use Rattle.mvcc_key.proofs.PointLaws.{rising_rest, rising_first, point_at-next, sorted-rising, rising-sorted}
-use Rattle.merge_cursor.specs.Standing.{count_in}
+use Rattle.merge_cursor.specs.views.Standing.{count_in}
 use Rattle.merge_cursor.specs.Visible.{visible, visible_place, StandsVisible}
 use Rattle.merge_cursor.proofs.LeadingLaws.{refused}
 use Rattle.merge_cursor.proofs.CutLaws.{below-IsCut, count_in-yes, count_in-no, count_in-below}

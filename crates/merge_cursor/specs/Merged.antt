@@ -2,7 +2,7 @@
 use Rattle.std.specs.Prelude.{ℕ, ◌+◌, List, length, flat_map, sum_by, Option, Some, None}
 use Rattle.mvcc_key.specs.Lists.{in_order}
 use Rattle.mvcc_key.specs.Order.{Name}
-use Rattle.mvcc_key.specs.Looks.{bits}
+use Rattle.mvcc_key.specs.views.Looks.{bits}
 use Rattle.mvcc_key.specs.Points.{Point, point_cmp, IsRising, count_below}
 use Rattle.mvcc_key.proofs.PointLaws.{rising-in_order}
 

@@ -2,7 +2,7 @@
 ghost use Rattle.std.specs.Prelude.{◌≡◌, ◌≤◌, ◌<◌, ℕ, length, IsOk};
 ghost use Rattle.mvcc_key.specs.KeyFormat.{name_of};
 ghost use Rattle.mvcc_key.specs.Encoded.{name_in};
-ghost use Rattle.merge_cursor.specs.Standing.{standings, heads, point_of_part, leads, precedes, IsLeading};
+ghost use Rattle.merge_cursor.specs.views.Standing.{standings, heads, point_of_part, leads, precedes, IsLeading};
 
 use mvcc_key::{Cursor, cmp_encoded};
 use std::cmp::Ordering;

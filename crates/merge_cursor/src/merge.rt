@@ -2,15 +2,15 @@
 ghost use Rattle.std.specs.Prelude.{◌≡◌, ◌≤◌, ◌<◌, ◌+◌, ◌-◌, ℕ, false, length, map, min, All, IsOk, IsTrue};
 ghost use Rattle.mvcc_key.specs.KeyFormat.{name_of};
 ghost use Rattle.mvcc_key.specs.Encoded.{name_in};
-ghost use Rattle.mvcc_key.specs.Looks.{bits};
+ghost use Rattle.mvcc_key.specs.views.Looks.{bits};
 ghost use Rattle.mvcc_key.specs.Points.{AreEncodable, count_below, point_at};
 ghost use Rattle.merge_cursor.specs.Merged.{merged, merged-rising, seek_looks, entries_below, entries_before};
-ghost use Rattle.merge_cursor.specs.Standing.{standings, lists_of, cut_of, heads, head_of, IsSettled, merged_place, place_in-le};
+ghost use Rattle.merge_cursor.specs.views.Standing.{standings, lists_of, cut_of, heads, head_of, IsSettled, merged_place, place_in-le};
 
 use crate::leading::leading;
 use crate::moves::{Move, move_all};
 use crate::step::{go_back, go_on};
-use mvcc_key::{Cursor, Steps};
+use mvcc_key::{Cursor, Looks};
 use std::sync::ledger::Ledger;
 
 /// One view of several parts, the newest first: of each name the newest part's pair, in both directions.
@@ -28,7 +28,7 @@ pub struct MergeCursor<C: Cursor> {
 }
 
 impl<C: Cursor> MergeCursor<C> {
-    ghost use Rattle.merge_cursor.specs.Seen.{lists_in, HasParts};
+    ghost use Rattle.merge_cursor.specs.views.Seen.{lists_in, HasParts};
 
     /// A cursor over these parts, before the first pair. This takes no memory.
     pub fn over(parts: Vec<C>) -> MergeCursor<C>
@@ -48,7 +48,7 @@ impl<C: Cursor> MergeCursor<C> {
 }
 
 impl<C: Cursor> Cursor for MergeCursor<C> {
-    ghost use Rattle.merge_cursor.specs.Seen.{lists_in, HasParts, is_ahead};
+    ghost use Rattle.merge_cursor.specs.views.Seen.{lists_in, HasParts, is_ahead};
 
     ghost points = { λ m. merged (lists_of (standings C.points C.place C.is_part m.parts.items)) };
 
@@ -62,58 +62,58 @@ impl<C: Cursor> Cursor for MergeCursor<C> {
 
     ghost in_range = { λ m. place_in-le m.ahead (cut_of m.ahead (head_of (heads (standings C.points C.place C.is_part m.parts.items)) m.current)) (merged (lists_of (standings C.points C.place C.is_part m.parts.items))) };
 
-    fn seek_ge<L: Ledger>(&mut self, key: &[u8], steps: &mut Steps<L>)
+    fn seek_ge<L: Ledger>(&mut self, key: &[u8], looks: &mut Looks<L>)
         requires { IsOk (name_of key.now) }
         ensures same { ⟦<Self as Cursor>⟧.points self.new ≡ ⟦<Self as Cursor>⟧.points self.old }
         ensures part { ⟦<Self as Cursor>⟧.is_part self.new ≡ ⟦<Self as Cursor>⟧.is_part self.old }
         ensures place { ⟦<Self as Cursor>⟧.place self.new
             ≡ count_below (name_in key.now) (⟦<Self as Cursor>⟧.points self.old) + 1 }
-        ensures some { 0 < length (⟦<Self as Cursor>⟧.points self.old) → steps.old < steps.new }
-        ensures later { steps.old ≤ steps.new }
+        ensures some { 0 < length (⟦<Self as Cursor>⟧.points self.old) → looks.old < looks.new }
+        ensures later { looks.old ≤ looks.new }
         ensures bound { IsTrue (⟦<Self as Cursor>⟧.is_part self.old)
-            → steps.new ≤ steps.old + bits (length (⟦<Self as Cursor>⟧.points self.old)) + 2 }
+            → looks.new ≤ looks.old + bits (length (⟦<Self as Cursor>⟧.points self.old)) + 2 }
 
         // The parts keep their points, and stand on the way on. Each is sought once, up to the name that is reached.
         ensures lists { lists_in C.points self.new ≡ lists_in C.points self.old }
         ensures parts { HasParts C.is_part self.old → HasParts C.is_part self.new }
         ensures ahead { IsTrue (is_ahead self.new) }
-        ensures looks { HasParts C.is_part self.old → steps.new ≤ steps.old + seek_looks (lists_in C.points self.old) }
+        ensures looks { HasParts C.is_part self.old → looks.new ≤ looks.old + seek_looks (lists_in C.points self.old) }
         ensures reached { let here = point_at (⟦<Self as Cursor>⟧.points self.new) (⟦<Self as Cursor>⟧.place self.new) in
             entries_before here (lists_in C.points self.old) ≡ entries_below (name_in key.now) (lists_in C.points self.old) }
     {
-        move_all(&mut self.parts, Move::SeekGe(key), steps);
+        move_all(&mut self.parts, Move::SeekGe(key), looks);
         self.current = leading(&self.parts, true);
         self.ahead = true;
     }
 
-    fn seek_lt<L: Ledger>(&mut self, key: &[u8], steps: &mut Steps<L>)
+    fn seek_lt<L: Ledger>(&mut self, key: &[u8], looks: &mut Looks<L>)
         requires { IsOk (name_of key.now) }
         ensures same { ⟦<Self as Cursor>⟧.points self.new ≡ ⟦<Self as Cursor>⟧.points self.old }
         ensures part { ⟦<Self as Cursor>⟧.is_part self.new ≡ ⟦<Self as Cursor>⟧.is_part self.old }
         ensures place { ⟦<Self as Cursor>⟧.place self.new ≡ count_below (name_in key.now) (⟦<Self as Cursor>⟧.points self.old) }
-        ensures some { 0 < length (⟦<Self as Cursor>⟧.points self.old) → steps.old < steps.new }
-        ensures later { steps.old ≤ steps.new }
+        ensures some { 0 < length (⟦<Self as Cursor>⟧.points self.old) → looks.old < looks.new }
+        ensures later { looks.old ≤ looks.new }
         ensures bound { IsTrue (⟦<Self as Cursor>⟧.is_part self.old)
-            → steps.new ≤ steps.old + bits (length (⟦<Self as Cursor>⟧.points self.old)) + 2 }
+            → looks.new ≤ looks.old + bits (length (⟦<Self as Cursor>⟧.points self.old)) + 2 }
 
         // The parts keep their points.
         ensures lists { lists_in C.points self.new ≡ lists_in C.points self.old }
         ensures parts { HasParts C.is_part self.old → HasParts C.is_part self.new }
     {
-        move_all(&mut self.parts, Move::SeekLt(key), steps);
+        move_all(&mut self.parts, Move::SeekLt(key), looks);
         self.current = leading(&self.parts, false);
         self.ahead = false;
     }
 
-    fn next<L: Ledger>(&mut self, steps: &mut Steps<L>)
+    fn next<L: Ledger>(&mut self, looks: &mut Looks<L>)
         ensures same { ⟦<Self as Cursor>⟧.points self.new ≡ ⟦<Self as Cursor>⟧.points self.old }
         ensures part { ⟦<Self as Cursor>⟧.is_part self.new ≡ ⟦<Self as Cursor>⟧.is_part self.old }
         ensures place { ⟦<Self as Cursor>⟧.place self.new
             ≡ min (⟦<Self as Cursor>⟧.place self.old + 1) (length (⟦<Self as Cursor>⟧.points self.old) + 1) }
         ensures some { 0 < ⟦<Self as Cursor>⟧.place self.old
-            → ⟦<Self as Cursor>⟧.place self.old ≤ length (⟦<Self as Cursor>⟧.points self.old) → steps.old < steps.new }
-        ensures later { steps.old ≤ steps.new }
-        ensures bound { IsTrue (⟦<Self as Cursor>⟧.is_part self.old) → steps.new ≤ steps.old + 1 }
+            → ⟦<Self as Cursor>⟧.place self.old ≤ length (⟦<Self as Cursor>⟧.points self.old) → looks.old < looks.new }
+        ensures later { looks.old ≤ looks.new }
+        ensures bound { IsTrue (⟦<Self as Cursor>⟧.is_part self.old) → looks.new ≤ looks.old + 1 }
 
         // The parts keep their points, and stand on the way on. Where they stood so before, a look is one point of a part from the
         // name that is left up to the one that is reached.
@@ -121,28 +121,28 @@ impl<C: Cursor> Cursor for MergeCursor<C> {
         ensures parts { HasParts C.is_part self.old → HasParts C.is_part self.new }
         ensures ahead { IsTrue (is_ahead self.new) }
         ensures looks { HasParts C.is_part self.old → IsTrue (is_ahead self.old)
-            → steps.new + entries_before (point_at (⟦<Self as Cursor>⟧.points self.old) (⟦<Self as Cursor>⟧.place self.old)) (lists_in C.points self.old)
-            ≤ steps.old + entries_before (point_at (⟦<Self as Cursor>⟧.points self.new) (⟦<Self as Cursor>⟧.place self.new)) (lists_in C.points self.old) }
+            → looks.new + entries_before (point_at (⟦<Self as Cursor>⟧.points self.old) (⟦<Self as Cursor>⟧.place self.old)) (lists_in C.points self.old)
+            ≤ looks.old + entries_before (point_at (⟦<Self as Cursor>⟧.points self.new) (⟦<Self as Cursor>⟧.place self.new)) (lists_in C.points self.old) }
     {
-        go_on(&mut self.parts, self.current, self.ahead, steps);
+        go_on(&mut self.parts, self.current, self.ahead, looks);
         self.current = leading(&self.parts, true);
         self.ahead = true;
     }
 
-    fn prev<L: Ledger>(&mut self, steps: &mut Steps<L>)
+    fn prev<L: Ledger>(&mut self, looks: &mut Looks<L>)
         ensures same { ⟦<Self as Cursor>⟧.points self.new ≡ ⟦<Self as Cursor>⟧.points self.old }
         ensures part { ⟦<Self as Cursor>⟧.is_part self.new ≡ ⟦<Self as Cursor>⟧.is_part self.old }
         ensures place { ⟦<Self as Cursor>⟧.place self.new ≡ ⟦<Self as Cursor>⟧.place self.old - 1 }
         ensures some { 0 < ⟦<Self as Cursor>⟧.place self.old
-            → ⟦<Self as Cursor>⟧.place self.old ≤ length (⟦<Self as Cursor>⟧.points self.old) → steps.old < steps.new }
-        ensures later { steps.old ≤ steps.new }
-        ensures bound { IsTrue (⟦<Self as Cursor>⟧.is_part self.old) → steps.new ≤ steps.old + 1 }
+            → ⟦<Self as Cursor>⟧.place self.old ≤ length (⟦<Self as Cursor>⟧.points self.old) → looks.old < looks.new }
+        ensures later { looks.old ≤ looks.new }
+        ensures bound { IsTrue (⟦<Self as Cursor>⟧.is_part self.old) → looks.new ≤ looks.old + 1 }
 
         // The parts keep their points.
         ensures lists { lists_in C.points self.new ≡ lists_in C.points self.old }
         ensures parts { HasParts C.is_part self.old → HasParts C.is_part self.new }
     {
-        go_back(&mut self.parts, self.current, self.ahead, steps);
+        go_back(&mut self.parts, self.current, self.ahead, looks);
         self.current = leading(&self.parts, false);
         self.ahead = false;
     }

@@ -4,7 +4,7 @@ mod listed;
 
 use super::*;
 use listed::Listed;
-use mvcc_key::{Bytes, Cursor, OutOfMemory, PairsCursor, PointOp, Steps, decode_key};
+use mvcc_key::{Bytes, Cursor, Looks, OutOfMemory, PairsCursor, PointOp, decode_key};
 use std::alloc::Global;
 use std::marker::Brand;
 use std::sync::ledger::{Blank, Ledger};
@@ -62,18 +62,18 @@ fn cursors_over<'a>(
     Ok(cursors)
 }
 
-fn make<C: Cursor, L: Ledger>(cursor: &mut C, step: Step, steps: &mut Steps<L>) {
+fn make<C: Cursor, L: Ledger>(cursor: &mut C, step: Step, looks: &mut Looks<L>) {
     match step {
-        Step::Next => cursor.next(steps),
-        Step::Prev => cursor.prev(steps),
+        Step::Next => cursor.next(looks),
+        Step::Prev => cursor.prev(looks),
         Step::SeekGe(key) => {
             if decode_key(key).is_ok() {
-                cursor.seek_ge(key, steps);
+                cursor.seek_ge(key, looks);
             }
         }
         Step::SeekLt(key) => {
             if decode_key(key).is_ok() {
-                cursor.seek_lt(key, steps);
+                cursor.seek_lt(key, looks);
             }
         }
     }
@@ -90,13 +90,13 @@ fn is_at<C: Cursor>(cursor: &C, state: Option<State>) -> bool {
 fn walks<C: Cursor, L: Ledger>(
     cursor: &mut C,
     moves: &[(Step, Option<State>)],
-    steps: &mut Steps<L>,
+    looks: &mut Looks<L>,
 ) -> bool {
     if !is_at(cursor, None) {
         return false;
     }
     for (step, state) in moves {
-        make(cursor, *step, steps);
+        make(cursor, *step, looks);
         if !is_at(cursor, *state) {
             return false;
         }
@@ -109,10 +109,10 @@ fn walks_merged<L: Ledger>(alloc: Global, case: Case, blank: Blank) -> Result<bo
     requires parts { blank.parts ≡ L.parts }
     requires some { 0 < blank.parts }
 {
-    let mut steps = Steps::<L>::new(blank);
+    let mut looks = Looks::<L>::new(blank);
     let lists = lists_of(alloc, case.0)?;
     let mut cursor = MergeCursor::over(cursors_over(alloc, lists.as_slice())?);
-    Ok(walks(&mut cursor, case.1, &mut steps))
+    Ok(walks(&mut cursor, case.1, &mut looks))
 }
 
 fn walks_visible<L: Ledger>(alloc: Global, case: Case, blank: Blank) -> Result<bool, OutOfMemory>
@@ -120,11 +120,11 @@ fn walks_visible<L: Ledger>(alloc: Global, case: Case, blank: Blank) -> Result<b
     requires parts { blank.parts ≡ L.parts }
     requires some { 0 < blank.parts }
 {
-    let mut steps = Steps::<L>::new(blank);
+    let mut looks = Looks::<L>::new(blank);
     let lists = lists_of(alloc, case.0)?;
     let merged = MergeCursor::over(cursors_over(alloc, lists.as_slice())?);
     let mut cursor = VisibleCursor::of(merged);
-    Ok(walks(&mut cursor, case.1, &mut steps))
+    Ok(walks(&mut cursor, case.1, &mut looks))
 }
 
 const A_AT_1: &[u8] = b"a\x00\x00\x00\x00\x00\x00\x00\x00\x01\x09";

@@ -2,14 +2,14 @@
 ghost use Rattle.std.specs.Prelude.{◌≡◌, ◌≤◌, ◌<◌, ◌+◌, ◌-◌, ℕ, false, length, min, take, is_some, IsOk, IsTrue};
 ghost use Rattle.mvcc_key.specs.KeyFormat.{name_of};
 ghost use Rattle.mvcc_key.specs.Encoded.{name_in};
-ghost use Rattle.mvcc_key.specs.Looks.{bits};
+ghost use Rattle.mvcc_key.specs.views.Looks.{bits};
 ghost use Rattle.mvcc_key.specs.Points.{IsRising, AreEncodable, count_below, point_at, value_at};
 ghost use Rattle.merge_cursor.specs.Merged.{seek_looks, entries_below, entries_before};
-ghost use Rattle.merge_cursor.specs.Seen.{lists_in, HasParts, is_ahead, points_in, place_of};
+ghost use Rattle.merge_cursor.specs.views.Seen.{lists_in, HasParts, is_ahead, points_in, place_of};
 ghost use Rattle.merge_cursor.specs.Visible.{visible, visible_place, visible_place-le, StandsVisible};
 
 use crate::MergeCursor;
-use mvcc_key::{Cursor, Steps};
+use mvcc_key::{Cursor, Looks};
 use std::sync::ledger::Ledger;
 
 /// The pairs of several parts that are set: of each name the newest part's pair, and none where that part clears the name.
@@ -37,7 +37,7 @@ fn is_at_cleared<C: Cursor>(merged: &MergeCursor<C>) -> bool
 }
 
 /// Goes on to the first name that is not cleared, from the current one on.
-fn skip_on<C: Cursor, L: Ledger>(merged: &mut MergeCursor<C>, steps: &mut Steps<L>)
+fn skip_on<C: Cursor, L: Ledger>(merged: &mut MergeCursor<C>, looks: &mut Looks<L>)
     requires { 1 ≤ place_of C.points C.place C.is_part merged.old }
     ensures same { let points = points_in C.points C.place C.is_part in points merged.new ≡ points merged.old }
     ensures stands { let points = points_in C.points C.place C.is_part in
@@ -48,7 +48,7 @@ fn skip_on<C: Cursor, L: Ledger>(merged: &mut MergeCursor<C>, steps: &mut Steps<
         let place = place_of C.points C.place C.is_part in
         length (visible (take (place merged.new - 1) (points merged.old)))
         ≡ length (visible (take (place merged.old - 1) (points merged.old))) }
-    ensures later { steps.old ≤ steps.new }
+    ensures later { looks.old ≤ looks.new }
     ensures lists { lists_in C.points merged.new ≡ lists_in C.points merged.old }
     ensures parts { HasParts C.is_part merged.old → HasParts C.is_part merged.new }
     ensures ahead { IsTrue (is_ahead merged.old) → IsTrue (is_ahead merged.new) }
@@ -56,16 +56,16 @@ fn skip_on<C: Cursor, L: Ledger>(merged: &mut MergeCursor<C>, steps: &mut Steps<
         let place = place_of C.points C.place C.is_part in
         let lists = lists_in C.points merged.old in
         HasParts C.is_part merged.old → IsTrue (is_ahead merged.old)
-        → steps.new + entries_before (point_at (points merged.old) (place merged.old)) lists
-        ≤ steps.old + entries_before (point_at (points merged.new) (place merged.new)) lists }
+        → looks.new + entries_before (point_at (points merged.old) (place merged.old)) lists
+        ≤ looks.old + entries_before (point_at (points merged.new) (place merged.new)) lists }
 {
     while is_at_cleared(merged) {
-        merged.next(steps);
+        merged.next(looks);
     }
 }
 
 /// Goes back to the last name that is not cleared, from the current one back.
-fn skip_back<C: Cursor, L: Ledger>(merged: &mut MergeCursor<C>, steps: &mut Steps<L>)
+fn skip_back<C: Cursor, L: Ledger>(merged: &mut MergeCursor<C>, looks: &mut Looks<L>)
     requires { let points = points_in C.points C.place C.is_part in
         place_of C.points C.place C.is_part merged.old ≤ length (points merged.old) }
     ensures same { let points = points_in C.points C.place C.is_part in points merged.new ≡ points merged.old }
@@ -78,17 +78,17 @@ fn skip_back<C: Cursor, L: Ledger>(merged: &mut MergeCursor<C>, steps: &mut Step
         let place = place_of C.points C.place C.is_part in
         length (visible (take (place merged.new) (points merged.old)))
         ≡ length (visible (take (place merged.old) (points merged.old))) }
-    ensures later { steps.old ≤ steps.new }
+    ensures later { looks.old ≤ looks.new }
     ensures lists { lists_in C.points merged.new ≡ lists_in C.points merged.old }
     ensures parts { HasParts C.is_part merged.old → HasParts C.is_part merged.new }
 {
     while is_at_cleared(merged) {
-        merged.prev(steps);
+        merged.prev(looks);
     }
 }
 
 impl<C: Cursor> VisibleCursor<C> {
-    ghost use Rattle.merge_cursor.specs.SeenVisible.{lists_behind, StandsOnParts};
+    ghost use Rattle.merge_cursor.specs.views.SeenVisible.{lists_behind, StandsOnParts};
 
     /// A cursor over the visible ones of these merged pairs, before the first. This takes no memory.
     pub fn of(merged: MergeCursor<C>) -> VisibleCursor<C>
@@ -103,7 +103,7 @@ impl<C: Cursor> VisibleCursor<C> {
 }
 
 impl<C: Cursor> Cursor for VisibleCursor<C> {
-    ghost use Rattle.merge_cursor.specs.SeenVisible.{lists_behind, StandsOnParts, goes_ahead};
+    ghost use Rattle.merge_cursor.specs.views.SeenVisible.{lists_behind, StandsOnParts, goes_ahead};
 
     ghost points = { λ v. visible (points_in C.points C.place C.is_part v.merged) };
 
@@ -117,16 +117,16 @@ impl<C: Cursor> Cursor for VisibleCursor<C> {
 
     ghost in_range = { λ v. visible_place-le (points_in C.points C.place C.is_part v.merged) (place_of C.points C.place C.is_part v.merged) };
 
-    fn seek_ge<L: Ledger>(&mut self, key: &[u8], steps: &mut Steps<L>)
+    fn seek_ge<L: Ledger>(&mut self, key: &[u8], looks: &mut Looks<L>)
         requires { IsOk (name_of key.now) }
         ensures same { ⟦<Self as Cursor>⟧.points self.new ≡ ⟦<Self as Cursor>⟧.points self.old }
         ensures part { ⟦<Self as Cursor>⟧.is_part self.new ≡ ⟦<Self as Cursor>⟧.is_part self.old }
         ensures place { ⟦<Self as Cursor>⟧.place self.new
             ≡ count_below (name_in key.now) (⟦<Self as Cursor>⟧.points self.old) + 1 }
-        ensures some { 0 < length (⟦<Self as Cursor>⟧.points self.old) → steps.old < steps.new }
-        ensures later { steps.old ≤ steps.new }
+        ensures some { 0 < length (⟦<Self as Cursor>⟧.points self.old) → looks.old < looks.new }
+        ensures later { looks.old ≤ looks.new }
         ensures bound { IsTrue (⟦<Self as Cursor>⟧.is_part self.old)
-            → steps.new ≤ steps.old + bits (length (⟦<Self as Cursor>⟧.points self.old)) + 2 }
+            → looks.new ≤ looks.old + bits (length (⟦<Self as Cursor>⟧.points self.old)) + 2 }
 
         // The parts keep their points, and stand on the way on. Each is sought once, and then a look is one point of a part from
         // the name sought up to the one that is reached.
@@ -134,41 +134,41 @@ impl<C: Cursor> Cursor for VisibleCursor<C> {
         ensures parts { StandsOnParts C.is_part self.old → StandsOnParts C.is_part self.new }
         ensures ahead { IsTrue (goes_ahead self.new) }
         ensures looks { StandsOnParts C.is_part self.old
-            → steps.new + entries_below (name_in key.now) (lists_behind C.points self.old)
-            ≤ steps.old + seek_looks (lists_behind C.points self.old)
+            → looks.new + entries_below (name_in key.now) (lists_behind C.points self.old)
+            ≤ looks.old + seek_looks (lists_behind C.points self.old)
             + entries_before (point_at (⟦<Self as Cursor>⟧.points self.new) (⟦<Self as Cursor>⟧.place self.new)) (lists_behind C.points self.old) }
     {
-        self.merged.seek_ge(key, steps);
-        skip_on(&mut self.merged, steps);
+        self.merged.seek_ge(key, looks);
+        skip_on(&mut self.merged, looks);
     }
 
-    fn seek_lt<L: Ledger>(&mut self, key: &[u8], steps: &mut Steps<L>)
+    fn seek_lt<L: Ledger>(&mut self, key: &[u8], looks: &mut Looks<L>)
         requires { IsOk (name_of key.now) }
         ensures same { ⟦<Self as Cursor>⟧.points self.new ≡ ⟦<Self as Cursor>⟧.points self.old }
         ensures part { ⟦<Self as Cursor>⟧.is_part self.new ≡ ⟦<Self as Cursor>⟧.is_part self.old }
         ensures place { ⟦<Self as Cursor>⟧.place self.new ≡ count_below (name_in key.now) (⟦<Self as Cursor>⟧.points self.old) }
-        ensures some { 0 < length (⟦<Self as Cursor>⟧.points self.old) → steps.old < steps.new }
-        ensures later { steps.old ≤ steps.new }
+        ensures some { 0 < length (⟦<Self as Cursor>⟧.points self.old) → looks.old < looks.new }
+        ensures later { looks.old ≤ looks.new }
         ensures bound { IsTrue (⟦<Self as Cursor>⟧.is_part self.old)
-            → steps.new ≤ steps.old + bits (length (⟦<Self as Cursor>⟧.points self.old)) + 2 }
+            → looks.new ≤ looks.old + bits (length (⟦<Self as Cursor>⟧.points self.old)) + 2 }
 
         // The parts keep their points.
         ensures lists { lists_behind C.points self.new ≡ lists_behind C.points self.old }
         ensures parts { StandsOnParts C.is_part self.old → StandsOnParts C.is_part self.new }
     {
-        self.merged.seek_lt(key, steps);
-        skip_back(&mut self.merged, steps);
+        self.merged.seek_lt(key, looks);
+        skip_back(&mut self.merged, looks);
     }
 
-    fn next<L: Ledger>(&mut self, steps: &mut Steps<L>)
+    fn next<L: Ledger>(&mut self, looks: &mut Looks<L>)
         ensures same { ⟦<Self as Cursor>⟧.points self.new ≡ ⟦<Self as Cursor>⟧.points self.old }
         ensures part { ⟦<Self as Cursor>⟧.is_part self.new ≡ ⟦<Self as Cursor>⟧.is_part self.old }
         ensures place { ⟦<Self as Cursor>⟧.place self.new
             ≡ min (⟦<Self as Cursor>⟧.place self.old + 1) (length (⟦<Self as Cursor>⟧.points self.old) + 1) }
         ensures some { 0 < ⟦<Self as Cursor>⟧.place self.old
-            → ⟦<Self as Cursor>⟧.place self.old ≤ length (⟦<Self as Cursor>⟧.points self.old) → steps.old < steps.new }
-        ensures later { steps.old ≤ steps.new }
-        ensures bound { IsTrue (⟦<Self as Cursor>⟧.is_part self.old) → steps.new ≤ steps.old + 1 }
+            → ⟦<Self as Cursor>⟧.place self.old ≤ length (⟦<Self as Cursor>⟧.points self.old) → looks.old < looks.new }
+        ensures later { looks.old ≤ looks.new }
+        ensures bound { IsTrue (⟦<Self as Cursor>⟧.is_part self.old) → looks.new ≤ looks.old + 1 }
 
         // The parts keep their points, and stand on the way on. Where they stood so before, a look is one point of a part from the
         // name that is left up to the one that is reached.
@@ -176,28 +176,28 @@ impl<C: Cursor> Cursor for VisibleCursor<C> {
         ensures parts { StandsOnParts C.is_part self.old → StandsOnParts C.is_part self.new }
         ensures ahead { IsTrue (goes_ahead self.new) }
         ensures looks { StandsOnParts C.is_part self.old → IsTrue (goes_ahead self.old)
-            → steps.new + entries_before (point_at (⟦<Self as Cursor>⟧.points self.old) (⟦<Self as Cursor>⟧.place self.old)) (lists_behind C.points self.old)
-            ≤ steps.old + entries_before (point_at (⟦<Self as Cursor>⟧.points self.new) (⟦<Self as Cursor>⟧.place self.new)) (lists_behind C.points self.old) }
+            → looks.new + entries_before (point_at (⟦<Self as Cursor>⟧.points self.old) (⟦<Self as Cursor>⟧.place self.old)) (lists_behind C.points self.old)
+            ≤ looks.old + entries_before (point_at (⟦<Self as Cursor>⟧.points self.new) (⟦<Self as Cursor>⟧.place self.new)) (lists_behind C.points self.old) }
     {
-        self.merged.next(steps);
-        skip_on(&mut self.merged, steps);
+        self.merged.next(looks);
+        skip_on(&mut self.merged, looks);
     }
 
-    fn prev<L: Ledger>(&mut self, steps: &mut Steps<L>)
+    fn prev<L: Ledger>(&mut self, looks: &mut Looks<L>)
         ensures same { ⟦<Self as Cursor>⟧.points self.new ≡ ⟦<Self as Cursor>⟧.points self.old }
         ensures part { ⟦<Self as Cursor>⟧.is_part self.new ≡ ⟦<Self as Cursor>⟧.is_part self.old }
         ensures place { ⟦<Self as Cursor>⟧.place self.new ≡ ⟦<Self as Cursor>⟧.place self.old - 1 }
         ensures some { 0 < ⟦<Self as Cursor>⟧.place self.old
-            → ⟦<Self as Cursor>⟧.place self.old ≤ length (⟦<Self as Cursor>⟧.points self.old) → steps.old < steps.new }
-        ensures later { steps.old ≤ steps.new }
-        ensures bound { IsTrue (⟦<Self as Cursor>⟧.is_part self.old) → steps.new ≤ steps.old + 1 }
+            → ⟦<Self as Cursor>⟧.place self.old ≤ length (⟦<Self as Cursor>⟧.points self.old) → looks.old < looks.new }
+        ensures later { looks.old ≤ looks.new }
+        ensures bound { IsTrue (⟦<Self as Cursor>⟧.is_part self.old) → looks.new ≤ looks.old + 1 }
 
         // The parts keep their points.
         ensures lists { lists_behind C.points self.new ≡ lists_behind C.points self.old }
         ensures parts { StandsOnParts C.is_part self.old → StandsOnParts C.is_part self.new }
     {
-        self.merged.prev(steps);
-        skip_back(&mut self.merged, steps);
+        self.merged.prev(looks);
+        skip_back(&mut self.merged, looks);
     }
 
     fn key(&self) -> Option<&[u8]> {

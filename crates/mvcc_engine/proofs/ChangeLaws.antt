@@ -18,8 +18,8 @@ use Rattle.stat_core.proofs.KeyChangeLaws.{others_of, share, share-there, share-
 use Rattle.stat_core.proofs.NewVersionLaws.{HasNoRecord, difference-front_of_key}
 use Rattle.mvcc_engine.specs.StoredPairs.{stored_pair, stored_pairs}
 use Rattle.mvcc_engine.specs.Step.{statistics}
-use Rattle.mvcc_engine.specs.Places.{AreVersions, IsPlace, is_of_lower_key, version_at, history_of}
-use Rattle.mvcc_engine.specs.Change.{shape, shape_with, change_by}
+use Rattle.mvcc_engine.specs.views.Places.{AreVersions, IsPlace, is_of_lower_key, version_at, history_of}
+use Rattle.mvcc_engine.specs.views.Change.{shape, shape_with, change_by}
 use Rattle.mvcc_engine.proofs.VersionLaws.{none_behind, not_same-Less, not_same-Greater, same-Equal, put_in_order-place, sorted-drop, timed-drop}
 
 abbrev of_key : Key → List Version → List Version

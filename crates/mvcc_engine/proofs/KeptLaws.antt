@@ -13,8 +13,8 @@ use Rattle.mvcc_value.specs.Encoding.{value_bytes, zigzag}
 use Rattle.mvcc_value.proofs.VarintLaws.{length-varint_le}
 use Rattle.stat_core.specs.ComputeStats.{no_sums, compute_stats}
 use Rattle.stat_core.specs.Running.{Running}
-use Rattle.stat_core.specs.Seen as shapes
-use Rattle.stat_core.specs.Seen.{number}
+use Rattle.stat_core.specs.views.Seen as shapes
+use Rattle.stat_core.specs.views.Seen.{number}
 use Rattle.stat_core.specs.declared.shape.VersionShape.{VersionShape as Declared}
 use Rattle.stat_core.specs.Settling.{NoDebt, aged_number, settled_number, aged_to}
 use Rattle.stat_core.specs.Settling as settling
@@ -24,10 +24,10 @@ use Rattle.stat_core.proofs.SettlingLaws.{aged_to-computes, aged_number-no_debt,
 use Rattle.mvcc_engine.specs.StoredPairs.{stored_pair, stored_pairs}
 use Rattle.mvcc_engine.specs.Write.{data_length, new_version}
 use Rattle.mvcc_engine.specs.Step.{statistics}
-use Rattle.mvcc_engine.specs.Places.{AreVersions, IsPlace, is_of_lower_key, version_at, newest_version, history_of}
-use Rattle.mvcc_engine.specs.Stored.{IsShort}
-use Rattle.mvcc_engine.specs.Change.{shape, change_by}
-use Rattle.mvcc_engine.specs.Kept.{IsKept, IsCounted}
+use Rattle.mvcc_engine.specs.views.Places.{AreVersions, IsPlace, is_of_lower_key, version_at, newest_version, history_of}
+use Rattle.mvcc_engine.specs.views.Stored.{IsShort}
+use Rattle.mvcc_engine.specs.views.Change.{shape, change_by}
+use Rattle.mvcc_engine.specs.views.Kept.{IsKept, IsCounted}
 use Rattle.mvcc_engine.proofs.ChangeLaws.{statistics-change}
 
 -- what holds of a new version and of those before holds of all

@@ -9,26 +9,26 @@ use Rattle.mvcc_key.specs.Lists.{put_in_order}
 use Rattle.mvcc_key.specs.Order.{Timestamp, Key, is_no_time, is_before}
 use Rattle.mvcc_key.specs.History.{Body, Version, version_cmp}
 use Rattle.mvcc_key.specs.Items.{version_item}
-use Rattle.mvcc_key.specs.Seen.{time_of}
+use Rattle.mvcc_key.specs.views.Seen.{time_of}
 use Rattle.mvcc_key.specs.Field.{Field}
 use Rattle.mvcc_key.specs.Refusal.{Refusal, TooOld, CountOverflow}
 use Rattle.stat_core.specs.ComputeStats.{overflowing}
 use Rattle.stat_core.specs.Running.{Running}
-use Rattle.stat_core.specs.Seen.{number}
+use Rattle.stat_core.specs.views.Seen.{number}
 use Rattle.stat_core.specs.Settling as settling
 use Rattle.stat_core.specs.Settling.{NoDebt, settled_number}
 use Rattle.stat_core.specs.declared.group.Group.{Group}
-use Rattle.stat_core.specs.Seen as shapes
+use Rattle.stat_core.specs.views.Seen as shapes
 use Rattle.stat_core.specs.declared.shape.VersionShape.{VersionShape as Declared}
 use Rattle.mvcc_engine.specs.declared.plan.Planned.{Planned}
 use Rattle.mvcc_engine.specs.Write.{checked, past_newest, new_version, is_present, write}
 use Rattle.mvcc_engine.specs.Step.{State, Reply, statistics, settled, parts_after, parts_between, change}
-use Rattle.mvcc_engine.specs.Places.{AreVersions, IsPlace, is_of_lower_key, version_at, newest_version, in_the_way, history_of}
-use Rattle.mvcc_engine.specs.Stored.{Held, IsShort}
-use Rattle.mvcc_engine.specs.Change.{shape, change_by, change_by_shapes}
-use Rattle.mvcc_engine.specs.Kept.{IsKept, IsCounted}
-use Rattle.mvcc_engine.specs.Plan.{IsPlanned, state_after}
-use Rattle.mvcc_engine.specs.Seen.{Tells}
+use Rattle.mvcc_engine.specs.views.Places.{AreVersions, IsPlace, is_of_lower_key, version_at, newest_version, in_the_way, history_of}
+use Rattle.mvcc_engine.specs.views.Stored.{Held, IsShort}
+use Rattle.mvcc_engine.specs.views.Change.{shape, change_by, change_by_shapes}
+use Rattle.mvcc_engine.specs.views.Kept.{IsKept, IsCounted}
+use Rattle.mvcc_engine.specs.views.Plan.{IsPlanned, state_after}
+use Rattle.mvcc_engine.specs.views.Seen.{Tells}
 use Rattle.mvcc_engine.proofs.RuleLaws.{newest-item, past-free, past-older, past-stopped, change-in_the_way, change-free, settled-over, settled-within}
 use Rattle.mvcc_engine.proofs.KeptLaws.{counted-put, settled-is, settled-no_debt}
 use Rattle.mvcc_engine.proofs.StoredLaws.{IsPlace-lower}

@@ -13,15 +13,15 @@ use Rattle.lsm_store.specs.Parts.{Part}
 use Rattle.mvcc_engine.specs.Read.{get, item_row}
 use Rattle.mvcc_engine.specs.Write.{checked, past_newest, new_version, is_present, write}
 use Rattle.mvcc_engine.specs.Step.{State, Reply, statistics, settled, parts_after, change}
-use Rattle.mvcc_engine.specs.Places.{AreVersions, is_ahead, is_of_lower_key, version_at, newest_version, in_the_way, history_of}
-use Rattle.mvcc_engine.specs.Seen.{Tells}
+use Rattle.mvcc_engine.specs.views.Places.{AreVersions, is_ahead, is_of_lower_key, version_at, newest_version, in_the_way, history_of}
+use Rattle.mvcc_engine.specs.views.Seen.{Tells}
 use Rattle.mvcc_key.proofs.OrderLaws.{not_up_to-before, not_up_to-none}
 use Rattle.mvcc_engine.proofs.VersionLaws.{items-history_of, newest_at-place, newest-place, up_to-not_before}
 use Rattle.mvcc_engine.proofs.StoredLaws.{IsPlace-lower, IsPlace-ahead, row-found}
 use Rattle.mvcc_key.specs.Points.{Point, point_at, count_below}
 use Rattle.mvcc_engine.specs.declared.version.VersionRef.{VersionRef}
-use Rattle.mvcc_engine.specs.Lent.{lent_point}
-use Rattle.mvcc_engine.specs.Stored.{version_of, versions_of, of_key, IsVersion}
+use Rattle.mvcc_engine.specs.views.Lent.{lent_point}
+use Rattle.mvcc_engine.specs.views.Stored.{version_of, versions_of, of_key, IsVersion}
 
 -- a read answers the version at its place
 pub get-place : (key : Key) (ts : Timestamp) (vs : List Version) → AreVersions vs

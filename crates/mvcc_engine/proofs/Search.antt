@@ -10,7 +10,7 @@ use Rattle.mvcc_key.specs.Lists.{first}
 use Rattle.mvcc_key.specs.Order.{Timestamp, Key, time_cmp, key_cmp, is_before, is_no_time}
 use Rattle.mvcc_key.specs.History.{Version, version_cmp}
 use Rattle.mvcc_key.proofs.OrderLaws.{time_cmp-total, key_cmp-total, key_cmp-IsAntisymmetric}
-use Rattle.mvcc_engine.specs.Places.{IsPlace, is_ahead, is_of_lower_key}
+use Rattle.mvcc_engine.specs.views.Places.{IsPlace, is_ahead, is_of_lower_key}
 use Rattle.mvcc_engine.proofs.VersionLaws.{version_cmp-of_one}
 
 -- what passes a test at one element passes it at those before

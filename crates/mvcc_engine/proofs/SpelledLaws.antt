@@ -10,10 +10,10 @@ use Rattle.mvcc_key.specs.History.{Body, Deletion, Bytes, Int, is_deletion, kept
 use Rattle.mvcc_value.specs.Encoding.{IsEncodable, value_bytes, plain_bytes, header}
 use Rattle.stat_core.specs.DeadSince.{is_deletion_value, shape_of}
 use Rattle.mvcc_value.proofs.ValueLaws.{value_of-value_bytes}
-use Rattle.mvcc_engine.specs.Spelled.{IsSpelled, IsSpelledAt, body_in, spelled_body}
+use Rattle.mvcc_engine.specs.views.Spelled.{IsSpelled, IsSpelledAt, body_in, spelled_body}
 use Rattle.mvcc_engine.specs.StoredPairs.{stored_value}
-use Rattle.mvcc_engine.specs.Stored.{version_of, point_of}
-use Rattle.mvcc_engine.specs.Change.{shape}
+use Rattle.mvcc_engine.specs.views.Stored.{version_of, point_of}
+use Rattle.mvcc_engine.specs.views.Change.{shape}
 use Rattle.mvcc_engine.specs.Write.{new_version}
 
 -- the bytes of a body spell it

@@ -11,10 +11,10 @@ use Rattle.stat_core.specs.Running.{Running}
 use Rattle.mvcc_engine.specs.Step.{State, Put, Age, Flush, Compact, Finished, statistics, change, step}
 use Rattle.mvcc_key.specs.declared.memory.OutOfMemory.{OutOfMemory}
 use Rattle.lsm_store.specs.Parts.{flushed, compacted}
-use Rattle.mvcc_engine.specs.Stored.{Held}
+use Rattle.mvcc_engine.specs.views.Stored.{Held}
 use Rattle.mvcc_engine.specs.Write.{write}
-use Rattle.mvcc_engine.specs.Seen.{Tells, AnswersUnlessFull}
-use Rattle.mvcc_engine.specs.Places.{history_of}
+use Rattle.mvcc_engine.specs.views.Seen.{Tells, AnswersUnlessFull}
+use Rattle.mvcc_engine.specs.views.Places.{history_of}
 use Rattle.mvcc_engine.proofs.PlanLaws.{state_of}
 use Rattle.mvcc_engine.proofs.RuleLaws.{settled-over, settled-within}
 

@@ -24,14 +24,14 @@ use Rattle.lsm_store.specs.Parts.{after_batch}
 use Rattle.lsm_store.specs.Shown.{shown, pairs_of, parts_of, stage_of, with_batch}
 use Rattle.lsm_store.proofs.ApplyLaws.{sorted-shown}
 use Rattle.mvcc_engine.specs.declared.version.VersionRef.{VersionRef}
-use Rattle.mvcc_engine.specs.Lent.{lent_point}
-use Rattle.mvcc_engine.specs.Change.{shape}
+use Rattle.mvcc_engine.specs.views.Lent.{lent_point}
+use Rattle.mvcc_engine.specs.views.Change.{shape}
 use Rattle.mvcc_engine.specs.Step.{stage, parts_between}
 use Rattle.stat_core.specs.DeadSince.{VersionShape, shape_of}
-use Rattle.mvcc_key.specs.Seen.{time_of}
-use Rattle.mvcc_engine.specs.Places.{AreVersions, IsPlace, is_ahead, is_of_lower_key, version_at, newest_version, history_of}
+use Rattle.mvcc_key.specs.views.Seen.{time_of}
+use Rattle.mvcc_engine.specs.views.Places.{AreVersions, IsPlace, is_ahead, is_of_lower_key, version_at, newest_version, history_of}
 use Rattle.mvcc_engine.specs.StoredPairs.{stored_pair, stored_pairs, stored_value}
-use Rattle.mvcc_engine.specs.Stored.{version_of, versions_of, point_of, of_key, IsVersion}
+use Rattle.mvcc_engine.specs.views.Stored.{version_of, versions_of, point_of, of_key, IsVersion}
 use Rattle.mvcc_engine.proofs.VersionLaws.{tied}
 use Rattle.mvcc_engine.proofs.Search.{PassesBack, passes_back, lower_back, ahead_back}
 

@@ -17,7 +17,7 @@ use Rattle.mvcc_key.specs.History.{Version, version_cmp, version_name}
 use Rattle.mvcc_key.specs.Items.{Item, items, version_item, item_cmp, newest, newest_at}
 use Rattle.mvcc_key.proofs.OrderLaws.{not_up_to-before, time_cmp-total, key_cmp-total, key_cmp-IsAntisymmetric, name_cmp-total}
 use Rattle.mvcc_key.proofs.SortedLaws.{IsBelowAll, in_order-same}
-use Rattle.mvcc_engine.specs.Places.{AreVersions, IsPlace, is_ahead, is_of_lower_key, version_at, history_of}
+use Rattle.mvcc_engine.specs.views.Places.{AreVersions, IsPlace, is_ahead, is_of_lower_key, version_at, history_of}
 
 -- an element among others
 module _ {X : Type 0} (cmp : X → X → Ordering) where

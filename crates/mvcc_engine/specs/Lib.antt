@@ -2,11 +2,4 @@ pub mod StoredPairs
 pub mod Read
 pub mod Write
 pub mod Step
-pub mod Places
-pub mod Spelled
-pub mod Stored
-pub mod Lent
-pub mod Change
-pub mod Kept
-pub mod Seen
-pub mod Plan
+pub mod views

@@ -3,10 +3,10 @@ ghost use Rattle.std.specs.Prelude.{◌≡◌, ◌≤◌, ◌^◌, IfSome, map, 
 ghost use Rattle.std.specs.Option.{option_map};
 ghost use Rattle.mvcc_key.specs.Field.{Field};
 ghost use Rattle.stat_core.specs.ComputeStats.{field, key_sums};
-ghost use Rattle.stat_core.specs.Limits.{IsInLimits};
-ghost use Rattle.stat_core.specs.Seen as shapes;
-ghost use Rattle.stat_core.specs.Seen.{number};
-ghost use Rattle.mvcc_engine.specs.Change.{change_by_shapes, shape_of_key};
+ghost use Rattle.stat_core.specs.views.Limits.{IsInLimits};
+ghost use Rattle.stat_core.specs.views.Seen as shapes;
+ghost use Rattle.stat_core.specs.views.Seen.{number};
+ghost use Rattle.mvcc_engine.specs.views.Change.{change_by_shapes, shape_of_key};
 
 use stat_core::{Group, GroupRef, VersionShape};
 

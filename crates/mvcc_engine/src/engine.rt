@@ -8,15 +8,15 @@
 //! ```
 ghost use Rattle.std.specs.Prelude.{◌≡◌, ◌≤◌, ◌<◌, ◌^◌, Bool, map, IfOk, MatchResult};
 ghost use Rattle.std.specs.Option.{option_map};
-ghost use Rattle.mvcc_key.specs.Seen.{time_of};
-ghost use Rattle.mvcc_value.specs.Seen.{found_of, plain_body, seen_body};
+ghost use Rattle.mvcc_key.specs.views.Seen.{time_of};
+ghost use Rattle.mvcc_value.specs.views.Seen.{found_of, plain_body, seen_body};
 ghost use Rattle.lsm_store.specs.Parts.{layout};
-ghost use Rattle.lsm_store.specs.Seen.{seen_shape};
+ghost use Rattle.lsm_store.specs.views.Seen.{seen_shape};
 ghost use Rattle.mvcc_engine.specs.Read.{get};
 ghost use Rattle.mvcc_engine.specs.Write.{write};
 ghost use Rattle.mvcc_engine.specs.Step.{Put, Delete, Age, Flush, Compact, Reply, Finished, WasThere, change, first_state, statistics, step};
-ghost use Rattle.mvcc_engine.specs.Seen.{Answers, AnswersAge, AnswersUnlessFull, Tells, refusal_of};
-ghost use Rattle.mvcc_engine.specs.Plan.{IsPlanned};
+ghost use Rattle.mvcc_engine.specs.views.Seen.{Answers, AnswersAge, AnswersUnlessFull, Tells, refusal_of};
+ghost use Rattle.mvcc_engine.specs.views.Plan.{IsPlanned};
 
 use crate::change::change_of;
 use crate::plan::{Planned, check, is_value, past};
@@ -42,8 +42,8 @@ pub struct Engine {
 
 impl Model for Engine {
     ghost use Rattle.mvcc_engine.specs.Step.{State};
-    ghost use Rattle.mvcc_engine.specs.Places.{history_of};
-    ghost use Rattle.mvcc_engine.specs.Kept.{IsCounted};
+    ghost use Rattle.mvcc_engine.specs.views.Places.{history_of};
+    ghost use Rattle.mvcc_engine.specs.views.Kept.{IsCounted};
 
     ghost Value = { State };
 

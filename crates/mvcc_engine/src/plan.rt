@@ -3,10 +3,10 @@ ghost use Rattle.std.specs.Prelude.{◌≡◌, ◌≤◌, IsSome, OnOk, IfErr, M
 ghost use Rattle.std.specs.Option.{option_map};
 ghost use Rattle.mvcc_key.specs.Order.{is_no_time};
 ghost use Rattle.mvcc_key.specs.Refusal.{TooOld};
-ghost use Rattle.mvcc_key.specs.Seen.{time_of};
-ghost use Rattle.mvcc_value.specs.Seen.{seen_body};
-ghost use Rattle.mvcc_engine.specs.Places.{in_the_way};
-ghost use Rattle.mvcc_engine.specs.Seen.{Tells, refusal_of};
+ghost use Rattle.mvcc_key.specs.views.Seen.{time_of};
+ghost use Rattle.mvcc_value.specs.views.Seen.{seen_body};
+ghost use Rattle.mvcc_engine.specs.views.Places.{in_the_way};
+ghost use Rattle.mvcc_engine.specs.views.Seen.{Tells, refusal_of};
 ghost use Rattle.mvcc_engine.specs.Write.{checked, data_length};
 
 use crate::refusal::Refusal;

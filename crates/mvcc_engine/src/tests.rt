@@ -268,7 +268,7 @@ fn keys_of_parts(engine: &Engine) -> Result<[u64; 3], OutOfMemory> {
 fn parts_come_and_go(rt: HostRuntime) -> Result<(), Fail> {
     use Answer::{Done, WasThere};
     use Call::{Compact, Delete, Flush, Put};
-    let steps: [(Call, Answer, [u64; 3]); 9] = [
+    let looks: [(Call, Answer, [u64; 3]); 9] = [
         (Put(b"a", 1, b"abc"), Done, [1, 0, 0]),
         (Flush, Done, [0, 1, 0]),
         (Flush, Done, [0, 1, 0]),
@@ -284,7 +284,7 @@ fn parts_come_and_go(rt: HostRuntime) -> Result<(), Fail> {
         ),
     ];
     let mut engine = bounded(rt.alloc(), LARGEST);
-    for (call, answer, keys) in steps {
+    for (call, answer, keys) in looks {
         assert!(rt; answer_to(&mut engine, call) == answer);
         assert!(rt; keys_of_parts(&engine)? == keys);
     }

@@ -2,20 +2,20 @@
 ghost use Rattle.std.specs.Prelude.{◌≡◌, ◌∷◌, [], Some, IfOk};
 ghost use Rattle.std.specs.Option.{option_map};
 ghost use Rattle.mvcc_key.specs.Order.{Key, Name};
-ghost use Rattle.mvcc_key.specs.Seen.{time_of};
-ghost use Rattle.mvcc_key.specs.SeenPoint.{points_of};
+ghost use Rattle.mvcc_key.specs.views.Seen.{time_of};
+ghost use Rattle.mvcc_key.specs.views.SeenPoint.{points_of};
 ghost use Rattle.mvcc_value.specs.Encoding.{IsEncodable};
-ghost use Rattle.mvcc_value.specs.Seen.{found_of, seen_body};
+ghost use Rattle.mvcc_value.specs.views.Seen.{found_of, seen_body};
 ghost use Rattle.mem_table.specs.Entries.{IsBatch};
 ghost use Rattle.stat_core.specs.DeadSince.{is_deletion_value, shape_of};
-ghost use Rattle.stat_core.specs.Seen as shapes;
-ghost use Rattle.mvcc_engine.specs.Change.{shape};
+ghost use Rattle.stat_core.specs.views.Seen as shapes;
+ghost use Rattle.mvcc_engine.specs.views.Change.{shape};
 ghost use Rattle.mvcc_engine.specs.Read.{row_of};
-ghost use Rattle.mvcc_engine.specs.Spelled.{spelled_body};
-ghost use Rattle.mvcc_engine.specs.Stored.{point_of, version_of, IsShort};
+ghost use Rattle.mvcc_engine.specs.views.Spelled.{spelled_body};
+ghost use Rattle.mvcc_engine.specs.views.Stored.{point_of, version_of, IsShort};
 ghost use Rattle.mvcc_engine.specs.Write.{new_version};
 
-use mvcc_key::{Batch, Bytes, Items, Key, OutOfMemory, PointOp, Timestamp, encode_key};
+use mvcc_key::{Batch, Bytes, Elements, Key, OutOfMemory, PointOp, Timestamp, encode_key};
 use mvcc_value::{Body, Found, OwnedValue, decode, encode};
 use stat_core::VersionShape;
 use std::alloc::Global;
@@ -33,10 +33,10 @@ pub struct StoredVersion {
 impl Model for StoredVersion {
     ghost use Rattle.std.specs.Prelude.{Some};
     ghost use Rattle.mvcc_key.specs.Encoded.{name_in};
-    ghost use Rattle.mvcc_key.specs.Seen.{time_of};
+    ghost use Rattle.mvcc_key.specs.views.Seen.{time_of};
     ghost use Rattle.mvcc_key.specs.History.{Version};
-    ghost use Rattle.mvcc_engine.specs.Stored.{version_of};
-    ghost use Rattle.mvcc_engine.specs.Spelled.{IsSpelledAt};
+    ghost use Rattle.mvcc_engine.specs.views.Stored.{version_of};
+    ghost use Rattle.mvcc_engine.specs.views.Spelled.{IsSpelledAt};
 
     ghost Value = { Version };
 
@@ -57,9 +57,9 @@ impl StoredVersion {
     {
         is_encodable(body);
         Ok(StoredVersion {
-            key: Bytes::of(encode_key(alloc, key, ts)?),
+            key: Bytes::from_vec(encode_key(alloc, key, ts)?),
             ts,
-            value: Bytes::of(encode(alloc, body, Timestamp::NONE, ts)?),
+            value: Bytes::from_vec(encode(alloc, body, Timestamp::NONE, ts)?),
         })
     }
 
@@ -77,14 +77,14 @@ impl StoredVersion {
         ensures batch { IfOk result IsBatch }
         ensures version { version_of (point_of self) ≡ self }
     {
-        let mut points = Items::new(alloc);
+        let mut points = Elements::new(alloc);
         points.push(PointOp {
             key: self.key,
             value: Some(self.value),
         })?;
         Ok(Batch {
             points,
-            ranges: Items::new(alloc),
+            ranges: Elements::new(alloc),
         })
     }
 }

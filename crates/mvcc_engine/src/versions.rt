@@ -16,22 +16,22 @@ ghost use Rattle.mvcc_key.specs.KeyFormat.{name_of};
 ghost use Rattle.mvcc_key.specs.Encoded.{name_in};
 ghost use Rattle.mvcc_key.specs.Points.{point_at, count_below};
 ghost use Rattle.mvcc_key.specs.History.{version_cmp};
-ghost use Rattle.mvcc_key.specs.Seen.{time_of};
-ghost use Rattle.mvcc_value.specs.Seen.{found_of};
+ghost use Rattle.mvcc_key.specs.views.Seen.{time_of};
+ghost use Rattle.mvcc_value.specs.views.Seen.{found_of};
 ghost use Rattle.lsm_store.specs.Parts.{flushed, compacted, layout};
-ghost use Rattle.lsm_store.specs.Seen.{seen_shape};
+ghost use Rattle.lsm_store.specs.views.Seen.{seen_shape};
 ghost use Rattle.lsm_store.specs.Shown.{shown};
-ghost use Rattle.stat_core.specs.Seen as shapes;
-ghost use Rattle.mvcc_engine.specs.Change.{shape};
-ghost use Rattle.mvcc_engine.specs.Lent.{lent_point};
-ghost use Rattle.mvcc_engine.specs.Places.{AreVersions, newest_version, history_of};
+ghost use Rattle.stat_core.specs.views.Seen as shapes;
+ghost use Rattle.mvcc_engine.specs.views.Change.{shape};
+ghost use Rattle.mvcc_engine.specs.views.Lent.{lent_point};
+ghost use Rattle.mvcc_engine.specs.views.Places.{AreVersions, newest_version, history_of};
 ghost use Rattle.mvcc_engine.specs.Read.{get};
 ghost use Rattle.mvcc_engine.specs.Step.{parts_between};
-ghost use Rattle.mvcc_engine.specs.Stored.{IsShort, nothing_held, of_key};
+ghost use Rattle.mvcc_engine.specs.views.Stored.{IsShort, nothing_held, of_key};
 
 use crate::version::{StoredVersion, VersionRef};
 use lsm_store::{PartShape, Store, StoreCursor};
-use mvcc_key::{Cursor, OutOfMemory, Steps, Timestamp, decode_key, encode_key};
+use mvcc_key::{Cursor, Looks, OutOfMemory, Timestamp, decode_key, encode_key};
 use mvcc_value::Found;
 use stat_core::VersionShape;
 use std::alloc::Global;
@@ -48,7 +48,7 @@ pub struct Versions {
 impl Model for Versions {
     ghost use Rattle.std.specs.List.{AllByRecursion};
     ghost use Rattle.lsm_store.specs.Shown.{shown};
-    ghost use Rattle.mvcc_engine.specs.Stored.{Held, held_in, IsVersion};
+    ghost use Rattle.mvcc_engine.specs.views.Stored.{Held, held_in, IsVersion};
 
     ghost Value = { Held };
 
@@ -156,8 +156,8 @@ fn seek<C: Cursor, L: Ledger>(cursor: &mut C, sought: &[u8], blank: Blank)
     ensures points { C.points cursor.new ≡ C.points cursor.old }
     ensures place { C.place cursor.new ≡ count_below (name_in sought.now) (C.points cursor.old) + 1 }
 {
-    let mut steps = Steps::<L>::new(blank);
-    cursor.seek_ge(sought, &mut steps);
+    let mut looks = Looks::<L>::new(blank);
+    cursor.seek_ge(sought, &mut looks);
 }
 
 /// The version at which the cursor stands, where it is one of the key.

@@ -12,7 +12,7 @@ use Rattle.std.proofs.lemmas.List.{length-append, take-append-drop}
 use Rattle.std.proofs.lemmas.Nat.{pow-add, div-mul-add}
 use Rattle.std.proofs.Math.Nat.{add-mul, mul-le-mul_right, mul_assoc, mod-eq_of_lt, div-mul-le_self, pow-succ'}
 use Rattle.mvcc_key.specs.Order.{key_cmp, Name, name_cmp}
-use Rattle.mvcc_key.specs.Heads.{head_to, head_of, IsHead}
+use Rattle.mvcc_key.specs.views.Heads.{head_to, head_of, IsHead}
 use Rattle.mvcc_key.proofs.ByteLaws.{IsBytes, IsBytes-rest, IsBytes-take, IsBytes-drop}
 use Rattle.mvcc_key.specs.KeyFormat.{KeyFault, name_of, byte_before}
 use Rattle.mvcc_key.specs.Encoded.{name_in, known_name}

@@ -2,7 +2,7 @@
 use Rattle.std.proofs.Common.{◌≡◌, ℕ, zero, suc, ◌+◌, ◌/◌, ◌^◌, ◌<◌, ◌≤◌, length, refl, arith, pow-suc, add-one}
 use Rattle.std.specs.Int.Digits.{digits_of}
 use Rattle.std.proofs.lemmas.Int.Digits.{length-digits_of-le, length-digits_of_step}
-use Rattle.mvcc_key.specs.Looks.{bits}
+use Rattle.mvcc_key.specs.views.Looks.{bits}
 
 -- a number is below the power of its number of digits
 below_power : (fuel n : ℕ) → n < fuel → n < 2 ^ length (digits_of 2 n)

@@ -12,7 +12,7 @@ use Rattle.mvcc_key.specs.KeyFormat.{encoded_name}
 use Rattle.mvcc_key.specs.Encoded.{IsName, name_in}
 use Rattle.mvcc_key.specs.Points.{Point, IsRising, AreEncodable}
 use Rattle.mvcc_key.specs.declared.batch.PointOp.{PointOp}
-use Rattle.mvcc_key.specs.SeenPoint.{point_of, points_of, AreNamed, IsAboveLast}
+use Rattle.mvcc_key.specs.views.SeenPoint.{point_of, points_of, AreNamed, IsAboveLast}
 use Rattle.mvcc_key.proofs.NamedLaws.{named_range}
 use Rattle.mvcc_key.proofs.PointLaws.{slice_get-front, slice_get-end, rising_push}
 

@@ -13,11 +13,7 @@ pub mod Refusal
 pub mod Fragments
 pub mod Canonical
 pub mod Pieces
-pub mod Looks
 pub mod Encoded
-pub mod Heads
 pub mod Clock
 pub mod Points
-pub mod Seen
-pub mod SeenKey
-pub mod SeenPoint
+pub mod views

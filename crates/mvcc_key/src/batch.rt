@@ -1,5 +1,5 @@
 //! What one write changes: pairs by their encoded keys, and range tombstones.
-use crate::{Bytes, Items, Key, Timestamp};
+use crate::{Bytes, Elements, Key, Timestamp};
 
 /// A stored pair that is set, or cleared where there is no value.
 #[derive(Debug, Drop)]
@@ -22,6 +22,6 @@ pub struct RangeOp {
 /// What one write changes. The range operations are applied in their order.
 #[derive(Debug, Drop)]
 pub struct Batch {
-    pub points: Items<PointOp>,
-    pub ranges: Items<RangeOp>,
+    pub points: Elements<PointOp>,
+    pub ranges: Elements<RangeOp>,
 }

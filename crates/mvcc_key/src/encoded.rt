@@ -4,8 +4,8 @@ ghost use Rattle.std.specs.Int.{w32, to_be_bytes};
 ghost use Rattle.mvcc_key.specs.Order.{is_no_time, name_cmp};
 ghost use Rattle.mvcc_key.specs.KeyFormat.{encoded_name, encoded_time, name_of, with_wall, with_counter, last_bytes, without_last, byte_before};
 ghost use Rattle.mvcc_key.specs.Encoded.{name_in, rank_of, IsName};
-ghost use Rattle.mvcc_key.specs.Seen.{time_of};
-ghost use Rattle.mvcc_key.specs.SeenKey.{reading_of};
+ghost use Rattle.mvcc_key.specs.views.Seen.{time_of};
+ghost use Rattle.mvcc_key.specs.views.SeenKey.{reading_of};
 
 use crate::heads::{cmp_past_heads, head_in};
 use crate::numbers::{put_u32, put_u64, read_u32, read_u64};

@@ -3,7 +3,7 @@ ghost use Rattle.std.specs.Prelude.{◌≡◌, ◌≤◌, ◌-◌, ◌*◌, ◌/
 ghost use Rattle.mvcc_key.specs.Order.{key_cmp, name_cmp};
 ghost use Rattle.mvcc_key.specs.KeyFormat.{name_of};
 ghost use Rattle.mvcc_key.specs.Encoded.{name_in};
-ghost use Rattle.mvcc_key.specs.Heads.{head_of, IsHead};
+ghost use Rattle.mvcc_key.specs.views.Heads.{head_of, IsHead};
 
 use crate::encoded::{key_in, rank_in};
 use crate::numbers::read_u64;

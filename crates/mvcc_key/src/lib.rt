@@ -8,11 +8,11 @@ mod heads;
 mod key;
 mod laws;
 mod list;
+mod looks;
 mod memory;
 mod numbers;
 mod pairs;
 mod span;
-mod steps;
 mod timestamp;
 
 pub use batch::{Batch, PointOp, RangeOp};
@@ -24,11 +24,11 @@ pub use laws::{
     laws_of_changes, laws_of_cuts, laws_of_fragments, laws_of_middles, laws_of_names,
     laws_of_timestamps,
 };
-pub use list::{Bytes, Items};
+pub use list::{Bytes, Elements};
+pub use looks::Looks;
 pub use memory::OutOfMemory;
 pub use pairs::{PairsCursor, SortedPairs};
 pub use span::{SeqRange, Span};
-pub use steps::Steps;
 pub use timestamp::Timestamp;
 
 #[cfg(test)]

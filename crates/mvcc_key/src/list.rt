@@ -8,11 +8,11 @@ use std::marker::Model;
 
 /// A list of elements. It is made from a `Vec` and given back as one with no memory taken.
 #[derive(Debug, Drop)]
-pub struct Items<T> {
+pub struct Elements<T> {
     held: Vec<T>,
 }
 
-impl<T> Model for Items<T> {
+impl<T> Model for Elements<T> {
     ghost use Rattle.std.specs.Prelude.{List};
 
     ghost Value = { List T };
@@ -20,21 +20,21 @@ impl<T> Model for Items<T> {
     ghost view = { λ i. i.held.items };
 }
 
-impl<T> Items<T> {
+impl<T> Elements<T> {
     /// No elements. This takes no memory.
-    pub fn new(alloc: Global) -> Items<T>
+    pub fn new(alloc: Global) -> Elements<T>
         ensures { result ≡ [] }
     {
-        Items {
+        Elements {
             held: Vec::new(alloc),
         }
     }
 
     /// The elements of the vector, which is taken as it is.
-    pub fn of(held: Vec<T>) -> Items<T>
+    pub fn from_vec(held: Vec<T>) -> Elements<T>
         ensures { result ≡ held.items }
     {
-        Items { held }
+        Elements { held }
     }
 
     /// The vector, given back as it is.
@@ -73,7 +73,7 @@ impl<T> Items<T> {
     }
 }
 
-impl<T: Drop> Items<T> {
+impl<T: Drop> Elements<T> {
     /// Puts an element at the end. Where memory is wanting the list is as it was, and the element is dropped.
     pub fn push(&mut self, value: T) -> Result<(), OutOfMemory>
         ensures ok { OnOk result (self.new ≡ self.old ++ value ∷ []) }
@@ -110,7 +110,7 @@ impl Bytes {
     }
 
     /// The bytes of the vector, which is taken as it is.
-    pub fn of(held: Vec<u8>) -> Bytes
+    pub fn from_vec(held: Vec<u8>) -> Bytes
         ensures { result ≡ held.items }
     {
         Bytes { held }

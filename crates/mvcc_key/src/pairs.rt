@@ -3,12 +3,12 @@ ghost use Rattle.std.specs.Prelude.{◌≡◌, ◌≤◌, ◌<◌, ◌+◌, ◌^
 ghost use Rattle.std.specs.Option.{option_map, option_and_then};
 ghost use Rattle.mvcc_key.specs.KeyFormat.{encoded_name, name_of};
 ghost use Rattle.mvcc_key.specs.Encoded.{name_in};
-ghost use Rattle.mvcc_key.specs.Heads.{IsHead};
-ghost use Rattle.mvcc_key.specs.Looks.{bits};
+ghost use Rattle.mvcc_key.specs.views.Heads.{IsHead};
+ghost use Rattle.mvcc_key.specs.views.Looks.{bits};
 ghost use Rattle.mvcc_key.specs.Points.{Point, IsRising, AreEncodable, count_below, is_below_name};
 
 use crate::heads::{cmp_past_heads, head_in};
-use crate::{Cursor, Steps};
+use crate::{Cursor, Looks};
 use std::cmp::Ordering;
 use std::sync::ledger::Ledger;
 
@@ -48,15 +48,15 @@ fn is_below<P: SortedPairs, L: Ledger>(
     index: usize,
     sought: &[u8],
     head: u64,
-    steps: &mut Steps<L>,
+    looks: &mut Looks<L>,
 ) -> bool
     requires within { index < length (P.points pairs.now) }
     requires sought { IsOk (name_of sought.now) }
     requires head { IsHead (name_in sought.now).key head }
     ensures answer { IfSome (slice_get (P.points pairs.now) index) (λ p. result ≡ is_below_name (name_in sought.now) p) }
-    ensures cost { steps.new ≡ steps.old + 1 }
+    ensures cost { looks.new ≡ looks.old + 1 }
 {
-    steps.tick();
+    looks.tick();
     match pairs.head(index).cmp(&head) {
         Ordering::Less => true,
         Ordering::Equal => cmp_past_heads(pairs.key(index), sought).is_lt(),
@@ -65,21 +65,21 @@ fn is_below<P: SortedPairs, L: Ledger>(
 }
 
 /// How many pairs are below the encoded key, by halves, each comparison a look.
-fn pairs_below<P: SortedPairs, L: Ledger>(pairs: &P, sought: &[u8], steps: &mut Steps<L>) -> usize
+fn pairs_below<P: SortedPairs, L: Ledger>(pairs: &P, sought: &[u8], looks: &mut Looks<L>) -> usize
     requires { IsOk (name_of sought.now) }
     ensures count { result ≡ count_below (name_in sought.now) (P.points pairs.now) }
     ensures within { result ≤ length (P.points pairs.now) }
     ensures small { result < 2 ^ 63 }
-    ensures some { 0 < length (P.points pairs.now) → steps.old < steps.new }
-    ensures later { steps.old ≤ steps.new }
-    ensures bound { steps.new ≤ steps.old + bits (length (P.points pairs.now)) }
+    ensures some { 0 < length (P.points pairs.now) → looks.old < looks.new }
+    ensures later { looks.old ≤ looks.new }
+    ensures bound { looks.new ≤ looks.old + bits (length (P.points pairs.now)) }
 {
     let head = head_in(sought);
     let mut low = 0;
     let mut high = pairs.len();
     while low < high {
         let middle = low + (high - low) / 2;
-        if is_below(pairs, middle, sought, head, steps) {
+        if is_below(pairs, middle, sought, head, looks) {
             low = middle + 1;
         } else {
             high = middle;
@@ -120,24 +120,24 @@ impl<P: SortedPairs> Cursor for PairsCursor<'_, P> {
 
     ghost in_range = { λ c. c.in_range };
 
-    fn seek_ge<L: Ledger>(&mut self, key: &[u8], steps: &mut Steps<L>) {
-        self.at = pairs_below(self.pairs, key, steps) + 1;
+    fn seek_ge<L: Ledger>(&mut self, key: &[u8], looks: &mut Looks<L>) {
+        self.at = pairs_below(self.pairs, key, looks) + 1;
     }
 
-    fn seek_lt<L: Ledger>(&mut self, key: &[u8], steps: &mut Steps<L>) {
-        self.at = pairs_below(self.pairs, key, steps);
+    fn seek_lt<L: Ledger>(&mut self, key: &[u8], looks: &mut Looks<L>) {
+        self.at = pairs_below(self.pairs, key, looks);
     }
 
-    fn next<L: Ledger>(&mut self, steps: &mut Steps<L>) {
+    fn next<L: Ledger>(&mut self, looks: &mut Looks<L>) {
         if self.at <= self.pairs.len() {
-            steps.tick();
+            looks.tick();
             self.at += 1;
         }
     }
 
-    fn prev<L: Ledger>(&mut self, steps: &mut Steps<L>) {
+    fn prev<L: Ledger>(&mut self, looks: &mut Looks<L>) {
         if self.at > 0 {
-            steps.tick();
+            looks.tick();
             self.at -= 1;
         }
     }

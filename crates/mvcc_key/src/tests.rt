@@ -138,10 +138,10 @@ fn names_stand_in_their_order(rt: HostRuntime) {
     }
 }
 
-fn names_in_a_list(alloc: Global) -> Result<Items<Bytes>, OutOfMemory> {
-    let mut names = Items::new(alloc);
+fn names_in_a_list(alloc: Global) -> Result<Elements<Bytes>, OutOfMemory> {
+    let mut names = Elements::new(alloc);
     names.push(Bytes::copy(alloc, b"a")?)?;
-    names.push(Bytes::of(encode_key(alloc, b"b", Timestamp::NONE)?))?;
+    names.push(Bytes::from_vec(encode_key(alloc, b"b", Timestamp::NONE)?))?;
     Ok(names)
 }
 
@@ -152,7 +152,7 @@ fn a_list_gives_its_vector_back(rt: HostRuntime) -> Result<(), Fail> {
     let last = names.pop().ok_or("two were put in")?;
     assert_eq!(rt; last.into_vec().as_slice(), b"b\x00".as_slice());
     assert!(rt; !names.is_empty());
-    let rest = Items::of(names.into_vec());
+    let rest = Elements::from_vec(names.into_vec());
     assert_eq!(rt; rest.as_slice().len(), 1);
     assert!(rt; Bytes::new(rt.alloc()).as_slice().is_empty());
     Ok(())
@@ -163,8 +163,8 @@ fn counts_one<L: Ledger>(blank: Blank) -> bool
     requires parts { blank.parts ≡ L.parts }
     requires some { 0 < blank.parts }
 {
-    let mut steps = Steps::<L>::new(blank);
-    steps.tick();
+    let mut looks = Looks::<L>::new(blank);
+    looks.tick();
     true
 }
 
@@ -174,16 +174,16 @@ fn a_counter_is_made(rt: HostRuntime) {
 }
 
 /// How many pairs stand at or above the encoded key.
-fn count_from<C: Cursor, L: Ledger>(cursor: &mut C, key: &[u8], steps: &mut Steps<L>) -> u64
+fn count_from<C: Cursor, L: Ledger>(cursor: &mut C, key: &[u8], looks: &mut Looks<L>) -> u64
     requires key { IsOk (name_of key.now) }
     requires few { length (C.points cursor.old) < 2 ^ 63 }
     ensures { count_below (name_in key.now) (C.points cursor.old) + result ≡ length (C.points cursor.old) }
 {
     let mut count = 0;
-    cursor.seek_ge(key, steps);
+    cursor.seek_ge(key, looks);
     while cursor.key().is_some() {
         count += 1;
-        cursor.next(steps);
+        cursor.next(looks);
     }
     count
 }
@@ -201,7 +201,7 @@ fn listed_pairs(alloc: Global) -> Result<Listed, OutOfMemory> {
             Some(bytes) => Some(Bytes::copy(alloc, bytes)?),
             None => None,
         };
-        let key = Bytes::of(encode_key(alloc, key, timestamp(wall, 0))?);
+        let key = Bytes::from_vec(encode_key(alloc, key, timestamp(wall, 0))?);
         pairs.push(PointOp { key, value })?;
     }
     Ok(pairs)
@@ -221,12 +221,12 @@ fn looked_up<L: Ledger>(
     if decode_key(key).is_err() {
         return None;
     }
-    let mut steps = Steps::<L>::new(blank);
+    let mut looks = Looks::<L>::new(blank);
     let mut cursor = PairsCursor::over(pairs);
-    let count = count_from(&mut cursor, key, &mut steps);
-    cursor.seek_lt(key, &mut steps);
+    let count = count_from(&mut cursor, key, &mut looks);
+    cursor.seek_lt(key, &mut looks);
     let below = cursor.value().and_then(|value| value.first().copied());
-    cursor.prev(&mut steps);
+    cursor.prev(&mut looks);
     let before = cursor.value().and_then(|value| value.first().copied());
     Some((count, below, before))
 }

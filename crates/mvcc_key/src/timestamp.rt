@@ -17,7 +17,7 @@ pub struct Timestamp {
 }
 
 impl Timestamp {
-    ghost use Rattle.mvcc_key.specs.Seen.{time_of};
+    ghost use Rattle.mvcc_key.specs.views.Seen.{time_of};
 
     /// The least timestamp, (0, 0), which stands for none: no version and no tombstone has it.
     pub const NONE: Timestamp = Timestamp {

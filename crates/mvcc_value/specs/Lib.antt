@@ -1,3 +1,3 @@
 pub mod Encoding
 pub mod Found
-pub mod Seen
+pub mod views

@@ -1,8 +1,8 @@
 //! From bytes to a value.
 ghost use Rattle.std.specs.Prelude.{◌≡◌, ◌≤◌, Ok, Err, false, true, length, MatchOption, MatchResult, nat_le, slice_index, ◌==◌, ◌&&◌};
-ghost use Rattle.mvcc_key.specs.Seen.{time_of};
+ghost use Rattle.mvcc_key.specs.views.Seen.{time_of};
 ghost use Rattle.mvcc_value.specs.Encoding as words;
-ghost use Rattle.mvcc_value.specs.Seen.{seen_body, seen_value};
+ghost use Rattle.mvcc_value.specs.views.Seen.{seen_body, seen_value};
 
 use crate::fault::ValueFault;
 use crate::layout::{

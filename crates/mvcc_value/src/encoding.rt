@@ -1,9 +1,9 @@
 //! From a value to its bytes.
 ghost use Rattle.std.specs.Prelude.{◌≡◌, ◌+◌, ◌^◌, ◌<◌, ◌≤◌, ◌++◌, IfOk, length, vec_len, vec_capacity};
 ghost use Rattle.mvcc_key.specs.History as history;
-ghost use Rattle.mvcc_key.specs.Seen.{time_of};
+ghost use Rattle.mvcc_key.specs.views.Seen.{time_of};
 ghost use Rattle.mvcc_value.specs.Encoding as words;
-ghost use Rattle.mvcc_value.specs.Seen.{seen_body};
+ghost use Rattle.mvcc_value.specs.views.Seen.{seen_body};
 
 use crate::layout::{BYTES_TAG, HEADER_LEN, HEADER_START, INT_TAG, PLAIN_LEN, is_kept};
 use crate::value::Body;

@@ -2,7 +2,7 @@
 ghost use Rattle.std.specs.Prelude.{◌≡◌, IsTrue, Ok};
 ghost use Rattle.mvcc_key.specs.History as history;
 ghost use Rattle.mvcc_key.specs.Order as order;
-ghost use Rattle.mvcc_key.specs.Seen.{time_of};
+ghost use Rattle.mvcc_key.specs.views.Seen.{time_of};
 ghost use Rattle.mvcc_value.specs.Encoding as words;
 
 use mvcc_key::Timestamp;

@@ -9,7 +9,7 @@
 //! | a deletion, written at 2 s | `0000000c 7f 0000000077359400 00000000` |
 ghost use Rattle.std.specs.Prelude.{◌≡◌, ◌&&◌, not};
 ghost use Rattle.mvcc_key.specs.Order.{is_before, is_no_time};
-ghost use Rattle.mvcc_key.specs.Seen.{time_of};
+ghost use Rattle.mvcc_key.specs.views.Seen.{time_of};
 
 use mvcc_key::Timestamp;
 

@@ -1,7 +1,7 @@
 //! The types of values.
 ghost use Rattle.std.specs.Prelude.{◌≡◌, IfOk};
 ghost use Rattle.mvcc_key.specs.History as history;
-ghost use Rattle.mvcc_value.specs.Seen.{int_of, owned_body, plain_body, seen_body};
+ghost use Rattle.mvcc_value.specs.views.Seen.{int_of, owned_body, plain_body, seen_body};
 
 use mvcc_key::{Key, OutOfMemory, Timestamp};
 use std::alloc::Global;

@@ -12,7 +12,7 @@ use Rattle.mvcc_key.proofs.CanonicalLaws.{fragments-canonical}
 use Rattle.mvcc_key.proofs.TombstonesOfLaws.{fragments-tombstones_of}
 use Rattle.mvcc_key.proofs.ChangeLaws.{stack_at-with_tombstone, stack_at-take_out, with_tombstone-apart, take_out-apart}
 use Rattle.mvcc_key.proofs.ApartLaws.{with_tombstone-around, take_out-around}
-use Rattle.range_key.specs.Changes.{AddsTombstone, TakesOut, PutsOver, TakesFrom}
+use Rattle.range_key.specs.views.Changes.{AddsTombstone, TakesOut, PutsOver, TakesFrom}
 
 -- a list in three parts
 pub three-ranges : {X : Type 0} (low high : ℕ) (xs : List X) → low ≤ high → xs ≡ take low xs ++ (slice_range xs low high ++ drop high xs)

@@ -5,7 +5,7 @@ use Rattle.mvcc_key.specs.Order.{Timestamp, Key, is_same_key}
 use Rattle.mvcc_key.specs.Fragments.{Fragment, is_same_stack, join_to, joined}
 use Rattle.mvcc_key.specs.Pieces.{piece}
 use Rattle.mvcc_key.proofs.StackLaws.{same_stack_is, both_true}
-use Rattle.range_key.specs.Joining.{is_one_with_last, with_last_end, joined_with, joined_on}
+use Rattle.range_key.specs.views.Joining.{is_one_with_last, with_last_end, joined_with, joined_on}
 
 -- by a known last, a piece is one with the last
 pub is_one_with_last-at : (fs : List Fragment) (n : ℕ) (l : Fragment) (start : Key) (stack : List Timestamp) → n + 1 ≡ length fs → l ≡ get_or fs n l

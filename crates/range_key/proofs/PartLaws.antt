@@ -11,7 +11,7 @@ use Rattle.mvcc_key.proofs.CanonicalLaws.{at_itself}
 use Rattle.mvcc_key.proofs.PieceLaws.{canonical-pieces, canonical-first, canonical-second, starts_up}
 use Rattle.mvcc_key.proofs.CutKeptLaws.{part_within-before, cut-before_none, cut-behind_none}
 use Rattle.mvcc_key.proofs.StackLaws.{le_trans, not_below_is}
-use Rattle.range_key.specs.Places.{EndsFrom, StartBy}
+use Rattle.range_key.specs.views.Places.{EndsFrom, StartBy}
 
 -- the first part of a canonical list
 pub canonical-take : (n : ℕ) (fs : List Fragment) → IsCanonical fs → IsCanonical (take n fs)

@@ -10,7 +10,7 @@ use Rattle.mvcc_key.specs.Pieces.{ArePieces, StartsFrom, StartsAbove}
 use Rattle.mvcc_key.proofs.CanonicalLaws.{at_or_below}
 use Rattle.mvcc_key.proofs.StackLaws.{le_trans, not_below_is}
 use Rattle.mvcc_key.proofs.SpanCutLaws.{low_up}
-use Rattle.range_key.specs.Places.{FirstFails}
+use Rattle.range_key.specs.views.Places.{FirstFails}
 use Rattle.range_key.proofs.PlaceLaws.{not_at_is}
 
 -- a piece that stands behind the bound

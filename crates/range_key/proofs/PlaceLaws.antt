@@ -11,7 +11,7 @@ use Rattle.mvcc_key.specs.Pieces.{ArePieces, EndBy, StartsFrom}
 use Rattle.mvcc_key.proofs.CanonicalLaws.{at_or_below, below_up}
 use Rattle.mvcc_key.proofs.StackLaws.{le_trans, below_means, not_below_is}
 use Rattle.mvcc_key.proofs.UniqueLaws.{above_means}
-use Rattle.range_key.specs.Places.{EndsAbove}
+use Rattle.range_key.specs.views.Places.{EndsAbove}
 
 -- what is not at or below a bound is above it
 pub not_at_is : (a b : Key) → is_at_or_below a b ≡ false → is_below b a ≡ true

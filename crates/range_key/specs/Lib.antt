@@ -1,4 +1,1 @@
-pub mod Places
-pub mod Joining
-pub mod Taken
-pub mod Changes
+pub mod views

@@ -3,10 +3,10 @@ ghost use Rattle.std.specs.Prelude.{◌≡◌, ◌++◌, List, IfOk, OnOk};
 ghost use Rattle.mvcc_key.specs.Canonical.{IsCanonical};
 ghost use Rattle.mvcc_key.specs.Fragments.{Fragment, cut_to, joined, part_within};
 ghost use Rattle.mvcc_key.specs.Pieces.{added_pieces, laid_over, taken_pieces, thinned};
-ghost use Rattle.mvcc_key.specs.Seen.{time_of};
-ghost use Rattle.range_key.specs.Joining.{joined_on};
-ghost use Rattle.range_key.specs.Places.{EndsFrom, StartBy};
-ghost use Rattle.range_key.specs.Taken.{is_taken};
+ghost use Rattle.mvcc_key.specs.views.Seen.{time_of};
+ghost use Rattle.range_key.specs.views.Joining.{joined_on};
+ghost use Rattle.range_key.specs.views.Places.{EndsFrom, StartBy};
+ghost use Rattle.range_key.specs.views.Taken.{is_taken};
 
 use crate::Fragment;
 use crate::cut::bounds_within;

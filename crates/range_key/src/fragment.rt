@@ -4,8 +4,8 @@ ghost use Rattle.mvcc_key.specs.Fragments.{is_same_stack};
 ghost use Rattle.mvcc_key.specs.Lists.{put_in_order};
 ghost use Rattle.mvcc_key.specs.Order.{is_same_key, newer_first};
 ghost use Rattle.mvcc_key.specs.Pieces.{piece};
-ghost use Rattle.mvcc_key.specs.Seen.{time_of};
-ghost use Rattle.range_key.specs.Taken.{is_taken};
+ghost use Rattle.mvcc_key.specs.views.Seen.{time_of};
+ghost use Rattle.range_key.specs.views.Taken.{is_taken};
 
 use crate::Stack;
 use crate::taken::Taken;

@@ -3,12 +3,12 @@ ghost use Rattle.std.specs.Prelude.{◌≡◌, ◌+◌, ◌≤◌, [], length, s
 ghost use Rattle.std.specs.Option.{option_copied};
 ghost use Rattle.mvcc_key.specs.Canonical.{IsCanonical};
 ghost use Rattle.mvcc_key.specs.Fragments.{cut_to};
-ghost use Rattle.mvcc_key.specs.Looks.{bits};
+ghost use Rattle.mvcc_key.specs.views.Looks.{bits};
 ghost use Rattle.mvcc_key.specs.Order.{is_within};
 
 use crate::place::fragment_at;
 use crate::{Fragment, FragmentList};
-use mvcc_key::{OutOfMemory, Steps};
+use mvcc_key::{Looks, OutOfMemory};
 use std::alloc::Global;
 use std::marker::Model;
 use std::sync::ledger::Ledger;
@@ -72,12 +72,12 @@ impl<'a> FragmentsRef<'a> {
     }
 
     /// The fragment that contains the key, as [`FragmentList::at`] finds it.
-    pub fn at<L: Ledger>(&self, key: &[u8], steps: &mut Steps<L>) -> Option<&Fragment>
+    pub fn at<L: Ledger>(&self, key: &[u8], looks: &mut Looks<L>) -> Option<&Fragment>
         ensures found { option_copied result ≡ find (λ f. is_within f.start f.end key.now) self.now }
-        ensures later { steps.old ≤ steps.new }
-        ensures looks { steps.new ≤ steps.old + bits (length self.now) + 1 }
+        ensures later { looks.old ≤ looks.new }
+        ensures looks { looks.new ≤ looks.old + bits (length self.now) + 1 }
     {
-        fragment_at(self.held, key, steps)
+        fragment_at(self.held, key, looks)
     }
 
     /// The fragments cut to the span, as a list of its own.

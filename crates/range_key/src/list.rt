@@ -4,18 +4,18 @@ ghost use Rattle.std.specs.List.{AllPass};
 ghost use Rattle.std.specs.Option.{option_copied};
 ghost use Rattle.mvcc_key.specs.Canonical.{IsCanonical, is_apart};
 ghost use Rattle.mvcc_key.specs.Fragments.{cut_to, fragments};
-ghost use Rattle.mvcc_key.specs.Looks.{bits};
+ghost use Rattle.mvcc_key.specs.views.Looks.{bits};
 ghost use Rattle.mvcc_key.specs.Order.{is_below, is_in_window, is_within};
-ghost use Rattle.mvcc_key.specs.Seen.{time_of};
-ghost use Rattle.range_key.specs.Changes.{AddsTombstone, Applies, PutsOver, TakesFrom, TakesOut, tombstones_after};
-ghost use Rattle.range_key.specs.Taken.{is_taken};
+ghost use Rattle.mvcc_key.specs.views.Seen.{time_of};
+ghost use Rattle.range_key.specs.views.Changes.{AddsTombstone, Applies, PutsOver, TakesFrom, TakesOut, tombstones_after};
+ghost use Rattle.range_key.specs.views.Taken.{is_taken};
 
 use crate::change::{added, thinned};
 use crate::cut::cut;
 use crate::place::{fragment_at, touched};
 use crate::taken::Taken;
 use crate::{Fragment, FragmentsRef};
-use mvcc_key::{OutOfMemory, RangeOp, Steps, Timestamp};
+use mvcc_key::{Looks, OutOfMemory, RangeOp, Timestamp};
 use std::alloc::Global;
 use std::marker::Model;
 use std::sync::ledger::Ledger;
@@ -152,12 +152,12 @@ impl FragmentList {
     }
 
     /// The fragment that contains the key, where there is one. It is found by halving: each fragment compared is a look.
-    pub fn at<L: Ledger>(&self, key: &[u8], steps: &mut Steps<L>) -> Option<&Fragment>
+    pub fn at<L: Ledger>(&self, key: &[u8], looks: &mut Looks<L>) -> Option<&Fragment>
         ensures found { option_copied result ≡ find (λ f. is_within f.start f.end key.now) self.now }
-        ensures later { steps.old ≤ steps.new }
-        ensures looks { steps.new ≤ steps.old + bits (length self.now) + 1 }
+        ensures later { looks.old ≤ looks.new }
+        ensures looks { looks.new ≤ looks.old + bits (length self.now) + 1 }
     {
-        fragment_at(self.as_slice(), key, steps)
+        fragment_at(self.as_slice(), key, looks)
     }
 
     /// Carries out one operation.

@@ -3,9 +3,9 @@ ghost use Rattle.std.specs.Prelude.{◌≡◌, [], OnOk};
 ghost use Rattle.mvcc_key.specs.Canonical.{IsCanonical};
 ghost use Rattle.mvcc_key.specs.Fragments.{part_within};
 ghost use Rattle.mvcc_key.specs.Pieces.{cut_below, cut_from, filled, piece};
-ghost use Rattle.mvcc_key.specs.Seen.{time_of};
-ghost use Rattle.range_key.specs.Joining.{is_one_with_last, joined_on, joined_with, with_last_end};
-ghost use Rattle.range_key.specs.Places.{EndsFrom, StartBy};
+ghost use Rattle.mvcc_key.specs.views.Seen.{time_of};
+ghost use Rattle.range_key.specs.views.Joining.{is_one_with_last, joined_on, joined_with, with_last_end};
+ghost use Rattle.range_key.specs.views.Places.{EndsFrom, StartBy};
 
 use crate::cut::bounds_within;
 use crate::{Fragment, Stack};

@@ -2,47 +2,47 @@
 ghost use Rattle.std.specs.Prelude.{◌≡◌, ◌+◌, ◌≤◌, length, take, drop, find, slice_range};
 ghost use Rattle.std.specs.Option.{option_copied};
 ghost use Rattle.mvcc_key.specs.Canonical.{IsCanonical};
-ghost use Rattle.mvcc_key.specs.Looks.{bits};
+ghost use Rattle.mvcc_key.specs.views.Looks.{bits};
 ghost use Rattle.mvcc_key.specs.Order.{is_at_or_below, is_within};
 ghost use Rattle.mvcc_key.specs.Pieces.{EndBy, EndBelow, StartsFrom, StartsAbove};
-ghost use Rattle.range_key.specs.Places.{EndsAbove, EndsFrom, StartBy, StartBelow};
+ghost use Rattle.range_key.specs.views.Places.{EndsAbove, EndsFrom, StartBy, StartBelow};
 
 use crate::Fragment;
-use mvcc_key::Steps;
+use mvcc_key::Looks;
 use std::sync::ledger::Ledger;
 
 /// One look: whether a fragment ends at the key or before it.
-fn ends_by<L: Ledger>(fragment: &Fragment, key: &[u8], steps: &mut Steps<L>) -> bool
+fn ends_by<L: Ledger>(fragment: &Fragment, key: &[u8], looks: &mut Looks<L>) -> bool
     ensures answer { result ≡ is_at_or_below fragment.now.end key.now }
-    ensures cost { steps.new ≡ steps.old + 1 }
+    ensures cost { looks.new ≡ looks.old + 1 }
 {
-    steps.tick();
+    looks.tick();
     fragment.end_bytes().cmp(key).is_le()
 }
 
 /// One look: whether a fragment starts at the key or before it.
-fn starts_by<L: Ledger>(fragment: &Fragment, key: &[u8], steps: &mut Steps<L>) -> bool
+fn starts_by<L: Ledger>(fragment: &Fragment, key: &[u8], looks: &mut Looks<L>) -> bool
     ensures answer { result ≡ is_at_or_below fragment.now.start key.now }
-    ensures cost { steps.new ≡ steps.old + 1 }
+    ensures cost { looks.new ≡ looks.old + 1 }
 {
-    steps.tick();
+    looks.tick();
     fragment.start_bytes().cmp(key).is_le()
 }
 
 /// The place of the first fragment that ends above the key. Each comparison is a look.
-fn first_ending_above<L: Ledger>(fragments: &[Fragment], key: &[u8], steps: &mut Steps<L>) -> usize
+fn first_ending_above<L: Ledger>(fragments: &[Fragment], key: &[u8], looks: &mut Looks<L>) -> usize
     requires { IsCanonical fragments.now }
     ensures within { result ≤ length fragments.now }
     ensures before { EndBy key.now (take result fragments.now) }
     ensures from { EndsAbove key.now (drop result fragments.now) }
-    ensures later { steps.old ≤ steps.new }
-    ensures cost { steps.new ≤ steps.old + bits (length fragments.now) }
+    ensures later { looks.old ≤ looks.new }
+    ensures cost { looks.new ≤ looks.old + bits (length fragments.now) }
 {
     let mut low = 0;
     let mut high = fragments.len();
     while low < high {
         let middle = low + (high - low) / 2;
-        if ends_by(&fragments[middle], key, steps) {
+        if ends_by(&fragments[middle], key, looks) {
             low = middle + 1;
         } else {
             high = middle;
@@ -55,16 +55,16 @@ fn first_ending_above<L: Ledger>(fragments: &[Fragment], key: &[u8], steps: &mut
 pub(crate) fn fragment_at<'a, L: Ledger>(
     fragments: &'a [Fragment],
     key: &[u8],
-    steps: &mut Steps<L>,
+    looks: &mut Looks<L>,
 ) -> Option<&'a Fragment>
     requires { IsCanonical fragments.now }
     ensures found { option_copied result ≡ find (λ f. is_within f.start f.end key.now) fragments.now }
-    ensures later { steps.old ≤ steps.new }
-    ensures looks { steps.new ≤ steps.old + bits (length fragments.now) + 1 }
+    ensures later { looks.old ≤ looks.new }
+    ensures looks { looks.new ≤ looks.old + bits (length fragments.now) + 1 }
 {
-    let place = first_ending_above(fragments, key, steps);
+    let place = first_ending_above(fragments, key, looks);
     let fragment = fragments.get(place)?;
-    if starts_by(fragment, key, steps) {
+    if starts_by(fragment, key, looks) {
         Some(fragment)
     } else {
         None

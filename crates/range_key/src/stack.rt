@@ -4,8 +4,8 @@ ghost use Rattle.std.specs.List.Sorted.{IsStrictlySortedBy, IsBinarySearchResult
 ghost use Rattle.mvcc_key.specs.Fragments.{is_same_stack};
 ghost use Rattle.mvcc_key.specs.Lists.{put_in_order};
 ghost use Rattle.mvcc_key.specs.Order.{newer_first, time_cmp};
-ghost use Rattle.mvcc_key.specs.Seen.{time_of};
-ghost use Rattle.range_key.specs.Taken.{is_taken};
+ghost use Rattle.mvcc_key.specs.views.Seen.{time_of};
+ghost use Rattle.range_key.specs.views.Taken.{is_taken};
 
 use crate::taken::Taken;
 use mvcc_key::{OutOfMemory, Timestamp};
@@ -23,7 +23,7 @@ impl Model for Stack {
     ghost use Rattle.std.specs.Prelude.{List, map};
     ghost use Rattle.std.specs.List.Sorted.{IsStrictlySortedBy};
     ghost use Rattle.mvcc_key.specs.Order.{Timestamp, newer_first};
-    ghost use Rattle.mvcc_key.specs.Seen.{time_of};
+    ghost use Rattle.mvcc_key.specs.views.Seen.{time_of};
 
     ghost Value = { List Timestamp };
 

@@ -1,7 +1,7 @@
 //! Which timestamps a change takes out of a span.
 ghost use Rattle.std.specs.Prelude.{◌≡◌};
-ghost use Rattle.mvcc_key.specs.Seen.{time_of};
-ghost use Rattle.range_key.specs.Taken.{is_taken};
+ghost use Rattle.mvcc_key.specs.views.Seen.{time_of};
+ghost use Rattle.range_key.specs.views.Taken.{is_taken};
 
 use mvcc_key::Timestamp;
 

@@ -1,7 +1,7 @@
 ghost use Rattle.std.specs.Prelude.{◌≡◌, ◌<◌};
 
 use super::*;
-use mvcc_key::{Bytes, Key, OutOfMemory, RangeOp, Steps, Timestamp};
+use mvcc_key::{Bytes, Key, Looks, OutOfMemory, RangeOp, Timestamp};
 use std::alloc::Global;
 use std::marker::Brand;
 use std::sync::ledger::{Blank, Ledger};
@@ -247,8 +247,8 @@ fn is_at<L: Ledger>(list: &FragmentList, key: &[u8], shown: Option<Shown>, blank
     requires parts { blank.parts ≡ L.parts }
     requires some { 0 < blank.parts }
 {
-    let mut steps = Steps::<L>::new(blank);
-    let fragment = list.at(key, &mut steps);
+    let mut looks = Looks::<L>::new(blank);
+    let fragment = list.at(key, &mut looks);
     match shown {
         Some(shown) => is_shown(fragment, shown),
         None => fragment.is_none(),
@@ -287,8 +287,8 @@ fn is_lent_at<L: Ledger>(list: &FragmentsRef<'_>, key: &[u8], shown: Shown, blan
     requires parts { blank.parts ≡ L.parts }
     requires some { 0 < blank.parts }
 {
-    let mut steps = Steps::<L>::new(blank);
-    is_shown(list.at(key, &mut steps), shown)
+    let mut looks = Looks::<L>::new(blank);
+    is_shown(list.at(key, &mut looks), shown)
 }
 
 #[test]

@@ -8,13 +8,13 @@ use Rattle.std.proofs.lemmas.List.Concat.{flat_map-cons}
 use Rattle.std.proofs.lemmas.List.Elements.{All-nil, All-push}
 use Rattle.mvcc_key.specs.Encoded.{name_in}
 use Rattle.mvcc_key.specs.Points.{Point}
-use Rattle.mvcc_key.specs.SeenPoint.{point_of, points_of}
+use Rattle.mvcc_key.specs.views.SeenPoint.{point_of, points_of}
 use Rattle.mvcc_key.specs.declared.batch.PointOp.{PointOp}
 use Rattle.mvcc_key.proofs.KeyFormatLaws.{length-encoded_name_le}
 use Rattle.mem_table.specs.Entries.{IsStorable}
 use Rattle.run_block.specs.RunFormat.{RangeOp, point_bytes, range_bytes}
-use Rattle.run_block.specs.Places.{point_in, range_in, points_in, ranges_in, run_in, IsIndex}
-use Rattle.run_block.specs.Writing.{point_with, IsBehind}
+use Rattle.run_block.specs.views.Places.{point_in, range_in, points_in, ranges_in, run_in, IsIndex}
+use Rattle.run_block.specs.views.Writing.{point_with, IsBehind}
 use Rattle.run_block.specs.declared.index.Index.{Index}
 use Rattle.run_block.specs.declared.place.PointPlace.{PointPlace}
 use Rattle.run_block.specs.declared.place.RangePlace.{RangePlace}

@@ -6,16 +6,16 @@ use Rattle.std.specs.Int.{w64, to_be_bytes}
 use Rattle.std.proofs.lemmas.Bool.{and_from, le-leb}
 use Rattle.std.proofs.lemmas.List.{length-map}
 use Rattle.std.proofs.lemmas.List.Elements.{All-map, All-weaker}
-use Rattle.mvcc_key.specs.SeenPoint.{point_of, points_of}
+use Rattle.mvcc_key.specs.views.SeenPoint.{point_of, points_of}
 use Rattle.mvcc_key.specs.declared.batch.PointOp.{PointOp}
 use Rattle.mvcc_key.specs.declared.batch.RangeOp.{RangeOp as Operation}
 use Rattle.mem_table.specs.Entries.{AreEntries}
 use Rattle.mem_table.proofs.EntryLaws.{stored-entries}
 use Rattle.run_block.specs.RunFormat.{magic, point_bytes, range_bytes, run_bytes}
 use Rattle.run_block.specs.Runs.{IsStoredRange, IsRun}
-use Rattle.run_block.specs.Entries.{IsStorableRange}
-use Rattle.run_block.specs.SeenRange.{range_of, ranges_of}
-use Rattle.run_block.specs.Writing.{head_bytes}
+use Rattle.run_block.specs.views.Entries.{IsStorableRange}
+use Rattle.run_block.specs.views.SeenRange.{range_of, ranges_of}
+use Rattle.run_block.specs.views.Writing.{head_bytes}
 
 stored_range : (op : Operation) → IsStorableRange op → IsStoredRange (range_of op)
 stored_range op h =

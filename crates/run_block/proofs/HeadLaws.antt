@@ -7,14 +7,14 @@ use Rattle.std.proofs.Math.Seq.{drop-append-add}
 use Rattle.std.proofs.lemmas.List.{length-append, length-map, append-nil}
 use Rattle.std.proofs.lemmas.List.Elements.{All-head, All-tail, All-nil}
 use Rattle.mvcc_key.specs.Encoded.{IsName, name_in}
-use Rattle.mvcc_key.specs.Heads.{IsHead}
+use Rattle.mvcc_key.specs.views.Heads.{IsHead}
 use Rattle.mvcc_key.specs.Points.{Point, IsRising}
 use Rattle.mem_table.specs.Entries.{IsStoredPoint}
 use Rattle.run_block.specs.RunFormat.{Run, point_bytes, run_bytes}
 use Rattle.run_block.specs.Runs.{IsStoredRange, IsRun, IsRunOf}
 use Rattle.run_block.specs.TimeSpan.{times_of, span_of}
-use Rattle.run_block.specs.Places.{piece_in, point_in, points_in, ranges_in, IsPlaced, IsRangePlaced, run_in, IsIndex}
-use Rattle.run_block.specs.Writing.{head_bytes, IsBehind}
+use Rattle.run_block.specs.views.Places.{piece_in, point_in, points_in, ranges_in, IsPlaced, IsRangePlaced, run_in, IsIndex}
+use Rattle.run_block.specs.views.Writing.{head_bytes, IsBehind}
 use Rattle.run_block.specs.declared.index.Index.{Index}
 use Rattle.run_block.specs.declared.piece.Piece.{Piece}
 use Rattle.run_block.specs.declared.place.PointPlace.{PointPlace}

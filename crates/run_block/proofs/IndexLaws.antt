@@ -6,11 +6,11 @@ use Rattle.std.proofs.lemmas.List.{append-nil, map-append}
 use Rattle.std.proofs.lemmas.List.Elements.{filter_map-append, All-push}
 use Rattle.std.proofs.lemmas.List.Sums.{fold-append}
 use Rattle.mvcc_key.specs.Order.{Timestamp}
-use Rattle.mvcc_key.specs.Seen.{time_of}
+use Rattle.mvcc_key.specs.views.Seen.{time_of}
 use Rattle.mvcc_key.specs.Points.{Point}
 use Rattle.run_block.specs.RunFormat.{RangeOp}
 use Rattle.run_block.specs.TimeSpan.{point_time, times_of, widened, span_of}
-use Rattle.run_block.specs.Places.{point_in, range_in, points_in, ranges_in, IsPlaced, IsRangePlaced, run_in, span_seen, IsIndex}
+use Rattle.run_block.specs.views.Places.{point_in, range_in, points_in, ranges_in, IsPlaced, IsRangePlaced, run_in, span_seen, IsIndex}
 use Rattle.run_block.specs.declared.index.Index.{Index}
 use Rattle.run_block.specs.declared.place.PointPlace.{PointPlace}
 use Rattle.run_block.specs.declared.place.RangePlace.{RangePlace}

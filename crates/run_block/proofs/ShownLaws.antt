@@ -12,7 +12,7 @@ use Rattle.mvcc_key.specs.Points.{Point, point_at, key_at, value_at}
 use Rattle.mvcc_key.proofs.KeyFormatLaws.{name_of-encoded_name, length-encoded_name_le}
 use Rattle.mvcc_key.proofs.PointLaws.{point_at-next, point_at-none}
 use Rattle.mem_table.specs.Entries.{IsStoredPoint}
-use Rattle.run_block.specs.Writing.{point_with}
+use Rattle.run_block.specs.views.Writing.{point_with}
 
 -- a key and a value that can be added as the next point
 pub record IsShown (points : List Point) (done : ℕ) (key : List ℕ) (value : Option (List ℕ)) : Type 0 where

@@ -8,11 +8,11 @@ use Rattle.std.specs.Ordering.{is_lt, is_le, ordering_reverse}
 use Rattle.std.proofs.lemmas.List.{append-nil}
 use Rattle.std.proofs.lemmas.List.Elements.{All-nil, All-cons, All-append, All-weaker, Contains-append_left, Contains-append_right}
 use Rattle.mvcc_key.specs.Order.{Timestamp, time_cmp, is_before, is_up_to, later}
-use Rattle.mvcc_key.specs.Seen.{time_of}
+use Rattle.mvcc_key.specs.views.Seen.{time_of}
 use Rattle.mvcc_key.specs.declared.timestamp.Timestamp.{Timestamp as Declared}
 use Rattle.mvcc_key.proofs.OrderLaws.{time_cmp-total, time_cmp-IsAntisymmetric}
 use Rattle.run_block.specs.TimeSpan.{IsLeast, IsGreatest, earlier, widened, span_of}
-use Rattle.run_block.specs.Places.{span_seen}
+use Rattle.run_block.specs.views.Places.{span_seen}
 
 -- ---- the order of timestamps
 

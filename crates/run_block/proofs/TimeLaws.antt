@@ -4,7 +4,7 @@ use Rattle.std.specs.Prelude.{Option, Some, None, IsSome, IfSome, IsTrue, ◌↔
 use Rattle.std.specs.Option.{option_map}
 use Rattle.std.proofs.lemmas.Bool.{le-ltb}
 use Rattle.mvcc_key.specs.Order.{Timestamp, is_in_range}
-use Rattle.mvcc_key.specs.Seen.{time_of}
+use Rattle.mvcc_key.specs.views.Seen.{time_of}
 use Rattle.mvcc_key.specs.declared.timestamp.Timestamp.{Timestamp as Declared}
 use Rattle.run_block.specs.TimeSpan.{record_bytes, record_time}
 

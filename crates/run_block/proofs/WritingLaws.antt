@@ -5,10 +5,10 @@ use Rattle.std.specs.Option.{ForSome, option_map}
 use Rattle.std.proofs.lemmas.List.{take-append-le, drop-append-le, length-append, length-drop}
 use Rattle.std.proofs.lemmas.List.Elements.{All-head, All-tail, All-weaker}
 use Rattle.mvcc_key.specs.Encoded.{IsName, name_in}
-use Rattle.mvcc_key.specs.Heads.{IsHead}
+use Rattle.mvcc_key.specs.views.Heads.{IsHead}
 use Rattle.run_block.specs.RunFormat.{Run}
 use Rattle.run_block.specs.TimeSpan.{times_of, span_of}
-use Rattle.run_block.specs.Places.{piece_in, point_in, range_in, points_in, ranges_in, IsPlaced, IsRangePlaced, run_in, IsIndex}
+use Rattle.run_block.specs.views.Places.{piece_in, point_in, range_in, points_in, ranges_in, IsPlaced, IsRangePlaced, run_in, IsIndex}
 use Rattle.run_block.specs.declared.index.Index.{Index}
 use Rattle.run_block.specs.declared.piece.Piece.{Piece}
 use Rattle.run_block.specs.declared.place.PointPlace.{PointPlace}

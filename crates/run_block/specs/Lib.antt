@@ -1,10 +1,4 @@
 pub mod RunFormat
 pub mod Runs
 pub mod TimeSpan
-pub mod Seen
-pub mod SeenRange
-pub mod Entries
-pub mod Places
-pub mod Reading
-pub mod Writing
-pub mod Held
+pub mod views

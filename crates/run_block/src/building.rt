@@ -2,13 +2,13 @@
 ghost use Rattle.std.specs.Prelude.{◌≡◌, ◌<◌, ◌+◌, ◌^◌, ◌++◌, [], Ok, length, All, IfOk, OnOk, IfSome, MatchOption, ◌≤◌};
 ghost use Rattle.std.specs.List.{flat_map};
 ghost use Rattle.mvcc_key.specs.Encoded.{IsName};
-ghost use Rattle.mvcc_key.specs.SeenPoint.{point_of, points_of};
+ghost use Rattle.mvcc_key.specs.views.SeenPoint.{point_of, points_of};
 ghost use Rattle.mem_table.specs.Entries.{AreEntries};
 ghost use Rattle.run_block.specs.RunFormat.{value_part, point_bytes, range_bytes, run_bytes, run_of};
 ghost use Rattle.run_block.specs.Runs.{IsRun};
-ghost use Rattle.run_block.specs.Entries.{IsStorableRange};
-ghost use Rattle.run_block.specs.Places.{IsIndex, points_in, run_in};
-ghost use Rattle.run_block.specs.SeenRange.{range_of, ranges_of};
+ghost use Rattle.run_block.specs.views.Entries.{IsStorableRange};
+ghost use Rattle.run_block.specs.views.Places.{IsIndex, points_in, run_in};
+ghost use Rattle.run_block.specs.views.SeenRange.{range_of, ranges_of};
 
 use crate::Run;
 use crate::adding::{add_point, add_range};

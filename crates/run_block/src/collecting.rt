@@ -5,14 +5,14 @@ ghost use Rattle.mvcc_key.specs.Points.{IsRising};
 ghost use Rattle.mem_table.specs.Entries.{IsStoredPoint};
 ghost use Rattle.run_block.specs.RunFormat.{point_bytes, run_bytes, run_of};
 ghost use Rattle.run_block.specs.Runs.{IsRun};
-ghost use Rattle.run_block.specs.Places.{IsIndex, points_in};
-ghost use Rattle.run_block.specs.Writing.{head_bytes, IsBehind};
+ghost use Rattle.run_block.specs.views.Places.{IsIndex, points_in};
+ghost use Rattle.run_block.specs.views.Writing.{head_bytes, IsBehind};
 
 use crate::Run;
 use crate::adding::add_point;
 use crate::index::Index;
 use crate::write::{HEAD_LEN, put_head, set_point_count};
-use mvcc_key::{Cursor, OutOfMemory, Steps};
+use mvcc_key::{Cursor, Looks, OutOfMemory};
 use std::alloc::Global;
 use std::marker::Brand;
 use std::sync::ledger::{Blank, Ledger};
@@ -54,11 +54,11 @@ fn collected<C: Cursor, L: Ledger>(
     ensures read { IfOk result (λ run. run_of (run_bytes run) ≡ Ok run) }
     ensures whole { IfOk result IsRun }
 {
-    let mut steps = Steps::<L>::new(blank);
+    let mut looks = Looks::<L>::new(blank);
     let mut bytes = Vec::with_capacity(alloc, HEAD_LEN.saturating_add(room.bytes))?;
     let mut index = Index::with_room(alloc, room.points, 0)?;
     put_head(&mut bytes, 0, 0)?;
-    add_shown(&mut bytes, &mut index, cursor, &mut steps)?;
+    add_shown(&mut bytes, &mut index, cursor, &mut looks)?;
     Ok(counted_run(bytes, index))
 }
 
@@ -67,7 +67,7 @@ fn add_shown<C: Cursor, L: Ledger>(
     out: &mut Vec<u8>,
     index: &mut Index,
     cursor: &mut C,
-    steps: &mut Steps<L>,
+    looks: &mut Looks<L>,
 ) -> Result<(), OutOfMemory>
     requires start { C.place cursor.old ≡ 0 }
     requires stored { All IsStoredPoint (C.points cursor.old) }
@@ -80,10 +80,10 @@ fn add_shown<C: Cursor, L: Ledger>(
     ensures behind { OnOk result (All (IsBehind (length out.old.items)) index.new.points.items) }
     ensures ranges { OnOk result (index.new.ranges.items ≡ []) }
 {
-    cursor.next(steps);
+    cursor.next(looks);
     while let Some(key) = cursor.key() {
         add_point(out, index, key, cursor.value())?;
-        cursor.next(steps);
+        cursor.next(looks);
     }
     Ok(())
 }

@@ -4,11 +4,11 @@ ghost use Rattle.std.specs.Option.{ForSome, option_map};
 ghost use Rattle.mvcc_key.specs.KeyFormat.{name_of};
 ghost use Rattle.mvcc_key.specs.Encoded.{IsName, name_in};
 ghost use Rattle.mvcc_key.specs.Order.{is_in_range, is_no_time};
-ghost use Rattle.mvcc_key.specs.Seen.{time_of};
+ghost use Rattle.mvcc_key.specs.views.Seen.{time_of};
 ghost use Rattle.run_block.specs.RunFormat as words;
-ghost use Rattle.run_block.specs.Seen.{fault_of};
-ghost use Rattle.run_block.specs.Places.{piece_in, point_in, range_in, IsPlaced, IsRangePlaced};
-ghost use Rattle.run_block.specs.Reading.{rest_of, Reads, kind_number, is_stored, IsKeyPiece, name_before};
+ghost use Rattle.run_block.specs.views.Seen.{fault_of};
+ghost use Rattle.run_block.specs.views.Places.{piece_in, point_in, range_in, IsPlaced, IsRangePlaced};
+ghost use Rattle.run_block.specs.views.Reading.{rest_of, Reads, kind_number, is_stored, IsKeyPiece, name_before};
 
 use crate::piece::Piece;
 use crate::place::{PointPlace, RangePlace};

@@ -15,7 +15,7 @@ pub(crate) struct Index {
 }
 
 impl Index {
-    ghost use Rattle.run_block.specs.Places.{IsIndex, IsPlaced, IsRangePlaced};
+    ghost use Rattle.run_block.specs.views.Places.{IsIndex, IsPlaced, IsRangePlaced};
 
     /// An index of nothing, with room for so many entries.
     pub(crate) fn with_room(

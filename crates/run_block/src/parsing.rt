@@ -3,9 +3,9 @@ ghost use Rattle.std.specs.Prelude.{◌≡◌, ℕ, ◌<◌, [], length, nat_lt,
 ghost use Rattle.mvcc_key.specs.FileKind as format;
 ghost use Rattle.run_block.specs.RunFormat as words;
 ghost use Rattle.run_block.specs.Runs.{IsRun};
-ghost use Rattle.run_block.specs.Seen.{fault_of, IsFaultOf};
-ghost use Rattle.run_block.specs.Places.{IsIndex, points_in, ranges_in, run_in};
-ghost use Rattle.run_block.specs.Reading.{rest_of, Reads, ArePointsAt, AreRangesAt};
+ghost use Rattle.run_block.specs.views.Seen.{fault_of, IsFaultOf};
+ghost use Rattle.run_block.specs.views.Places.{IsIndex, points_in, ranges_in, run_in};
+ghost use Rattle.run_block.specs.views.Reading.{rest_of, Reads, ArePointsAt, AreRangesAt};
 
 use crate::index::Index;
 use crate::reader::Reader;

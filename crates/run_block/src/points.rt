@@ -1,7 +1,7 @@
 //! The points of a run, where they lie in its bytes.
 ghost use Rattle.std.specs.Prelude.{◌≡◌, All};
 ghost use Rattle.mvcc_key.specs.Points.{IsRising, AreEncodable};
-ghost use Rattle.run_block.specs.Places.{IsPlaced, points_in};
+ghost use Rattle.run_block.specs.views.Places.{IsPlaced, points_in};
 
 use crate::place::PointPlace;
 use mvcc_key::SortedPairs;

@@ -2,7 +2,7 @@
 ghost use Rattle.std.specs.Prelude.{◌≡◌, ◌≤◌, ◌+◌, ◌^◌, length, IfOk, Bool};
 ghost use Rattle.std.specs.Int.{w32, w64};
 ghost use Rattle.run_block.specs.RunFormat as words;
-ghost use Rattle.run_block.specs.Seen.{fault_of};
+ghost use Rattle.run_block.specs.views.Seen.{fault_of};
 
 use crate::numbers::{read_u32, read_u64};
 use crate::piece::Piece;
@@ -17,8 +17,8 @@ pub(crate) struct Reader<'a> {
 }
 
 impl<'a> Reader<'a> {
-    ghost use Rattle.run_block.specs.Places.{piece_in};
-    ghost use Rattle.run_block.specs.Reading.{rest_of, Reads, kind_number};
+    ghost use Rattle.run_block.specs.views.Places.{piece_in};
+    ghost use Rattle.run_block.specs.views.Reading.{rest_of, Reads, kind_number};
 
     /// A reader before the first byte.
     pub(crate) fn new(bytes: &'a [u8]) -> Reader<'a>

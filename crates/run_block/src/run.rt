@@ -1,13 +1,13 @@
 //! A sorted run.
 ghost use Rattle.std.specs.Prelude.{ℕ, ◌≡◌, ◌↔◌, ◌+◌, [], length, IsTrue, IsNone, IfSome, All, slice_get};
 ghost use Rattle.std.specs.Option.{option_map};
-ghost use Rattle.mvcc_key.specs.Seen.{time_of};
+ghost use Rattle.mvcc_key.specs.views.Seen.{time_of};
 ghost use Rattle.mem_table.specs.Entries.{IsStoredPoint};
 ghost use Rattle.run_block.specs.RunFormat as words;
 ghost use Rattle.run_block.specs.Runs.{IsRun, IsRunOf};
-ghost use Rattle.run_block.specs.SeenRange.{lent_range};
+ghost use Rattle.run_block.specs.views.SeenRange.{lent_range};
 ghost use Rattle.run_block.specs.TimeSpan.{times_of, IsLeast, IsGreatest};
-ghost use Rattle.run_block.specs.Places.{IsIndex, run_in, set_value, piece_in};
+ghost use Rattle.run_block.specs.views.Places.{IsIndex, run_in, set_value, piece_in};
 
 use crate::index::Index;
 use crate::place::RangePlace;
@@ -31,7 +31,7 @@ pub struct Run {
 
 impl Model for Run {
     ghost use Rattle.run_block.specs.RunFormat.{Run};
-    ghost use Rattle.run_block.specs.Held.{held_run, IsHeld};
+    ghost use Rattle.run_block.specs.views.Held.{held_run, IsHeld};
 
     ghost Value = { Run };
 

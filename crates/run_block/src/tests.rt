@@ -4,7 +4,7 @@ mod rising;
 
 use super::*;
 use mem_table::MemTable;
-use mvcc_key::{Bytes, Cursor, OutOfMemory, PointOp, Steps, Timestamp, encode_key};
+use mvcc_key::{Bytes, Cursor, Looks, OutOfMemory, PointOp, Timestamp, encode_key};
 use rising::Rising;
 use std::alloc::Global;
 use std::marker::Brand;
@@ -184,7 +184,7 @@ fn point_op(
         Some(bytes) => Some(Bytes::copy(alloc, bytes)?),
         None => None,
     };
-    let key = Bytes::of(encode_key(alloc, key, ts)?);
+    let key = Bytes::from_vec(encode_key(alloc, key, ts)?);
     Ok(PointOp { key, value })
 }
 
@@ -230,20 +230,20 @@ fn walks<L: Ledger>(run: &Run, states: &[State], blank: Blank) -> bool
     requires parts { blank.parts ≡ L.parts }
     requires some { 0 < blank.parts }
 {
-    let mut steps = Steps::<L>::new(blank);
+    let mut looks = Looks::<L>::new(blank);
     let mut cursor = run.cursor();
     let mut walked = is_at(&cursor, None);
     for state in states {
-        cursor.next(&mut steps);
+        cursor.next(&mut looks);
         walked = is_at(&cursor, Some(*state)) && walked;
     }
-    cursor.next(&mut steps);
+    cursor.next(&mut looks);
     walked = is_at(&cursor, None) && walked;
     for state in states.iter().rev() {
-        cursor.prev(&mut steps);
+        cursor.prev(&mut looks);
         walked = is_at(&cursor, Some(*state)) && walked;
     }
-    cursor.prev(&mut steps);
+    cursor.prev(&mut looks);
     is_at(&cursor, None) && walked
 }
 

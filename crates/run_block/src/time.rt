@@ -3,9 +3,9 @@ ghost use Rattle.std.specs.Prelude.{◌≡◌, IsOk};
 ghost use Rattle.std.specs.Option.{option_map};
 ghost use Rattle.mvcc_key.specs.KeyFormat.{name_of};
 ghost use Rattle.mvcc_key.specs.Encoded.{IsName, name_in};
-ghost use Rattle.mvcc_key.specs.Seen.{time_of};
+ghost use Rattle.mvcc_key.specs.views.Seen.{time_of};
 ghost use Rattle.run_block.specs.TimeSpan.{record_time, set_time, point_time, widened};
-ghost use Rattle.run_block.specs.Places.{point_in, IsPlaced, span_seen};
+ghost use Rattle.run_block.specs.views.Places.{point_in, IsPlaced, span_seen};
 
 use crate::numbers::{read_u32, read_u64};
 use crate::place::PointPlace;

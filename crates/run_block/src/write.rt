@@ -4,10 +4,10 @@ ghost use Rattle.std.specs.Option.{ForSome, option_map};
 ghost use Rattle.mvcc_key.specs.Encoded.{IsName};
 ghost use Rattle.mvcc_key.specs.Limits.{max_stored_length};
 ghost use Rattle.run_block.specs.RunFormat.{with_length, value_part, point_bytes, range_bytes, kind_byte};
-ghost use Rattle.run_block.specs.Entries.{IsStorableRange};
-ghost use Rattle.run_block.specs.SeenRange.{range_of};
-ghost use Rattle.run_block.specs.Places.{piece_in, point_in, range_in, IsPlaced, IsRangePlaced};
-ghost use Rattle.run_block.specs.Writing.{head_bytes, point_with, IsBehind};
+ghost use Rattle.run_block.specs.views.Entries.{IsStorableRange};
+ghost use Rattle.run_block.specs.views.SeenRange.{range_of};
+ghost use Rattle.run_block.specs.views.Places.{piece_in, point_in, range_in, IsPlaced, IsRangePlaced};
+ghost use Rattle.run_block.specs.views.Writing.{head_bytes, point_with, IsBehind};
 
 use crate::numbers::{put_u32, put_u64, set_u64};
 use crate::piece::Piece;

@@ -9,7 +9,7 @@ use Rattle.io_edge.specs.Writing.{AppendsBeginning}
 use Rattle.mvcc_engine.specs.Step.{State, first_state}
 use Rattle.script_run.specs.CommandLine.{Options}
 use Rattle.script_run.specs.Output.{Carried, carry_out, text_of, lines, output_from, script_output}
-use Rattle.script_run.specs.Gathering.{Moves, Gathers, GathersBeginning}
+use Rattle.script_run.specs.views.Gathering.{Moves, Gathers, GathersBeginning}
 
 -- what is written, what is gathered and what is to come are all of the text
 pub record IsUnderWay (held held' : Option (List ℕ)) (gathered coming all : List ℕ) : Type 0 where

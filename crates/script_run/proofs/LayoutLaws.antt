@@ -8,13 +8,13 @@ use Rattle.std.proofs.lemmas.Grind.{flat_map-append}
 use Rattle.std.proofs.lemmas.Result.{on_ok_weaker}
 use Rattle.lsm_store.specs.Parts as parts
 use Rattle.lsm_store.specs.Parts.{part_shape, layout}
-use Rattle.lsm_store.specs.Seen.{seen_shape}
+use Rattle.lsm_store.specs.views.Seen.{seen_shape}
 use Rattle.lsm_store.specs.declared.shape.PartShape.{PartShape}
 use Rattle.script_run.specs.Text.{Answer, LayoutLine, show}
 use Rattle.mvcc_engine.specs.Step as engine
 use Rattle.mvcc_engine.specs.Step.{State, step}
 use Rattle.script_run.specs.Grammar.{Layout}
-use Rattle.script_run.specs.Answered.{IsAnswered}
+use Rattle.script_run.specs.views.Answered.{IsAnswered}
 use Rattle.script_run.specs.Output.{laid_out, layout_answers, performed}
 use Rattle.script_run.proofs.StepLaws.{taken_all, step-layout}
 

@@ -12,7 +12,7 @@ use Rattle.stat_core.specs.ComputeStats.{overflowing}
 use Rattle.lsm_store.specs.Parts.{Part, Stage, after_batch, is_empty_part, empty_part, flushed, compacted}
 use Rattle.mvcc_engine.specs.Write.{write}
 use Rattle.mvcc_engine.specs.Step.{State, Command, Put, Delete, Age, Flush, Compact, Get, Stats, Layout, Reply, Finished, WasThere, Stepped, statistics, unless_overflow, settled, parts_after, stage, change, step}
-use Rattle.mvcc_engine.specs.Seen.{Answers, AnswersAge, AnswersUnlessFull}
+use Rattle.mvcc_engine.specs.views.Seen.{Answers, AnswersAge, AnswersUnlessFull}
 use Rattle.mvcc_engine.specs.declared.refusal.Refusal.{Refusal}
 use Rattle.mvcc_engine.specs.declared.refusal.AgeFault.{AgeFault}
 

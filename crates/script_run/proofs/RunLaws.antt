@@ -9,7 +9,7 @@ use Rattle.io_edge.specs.Writing.{AppendsBeginning}
 use Rattle.script_run.specs.CommandLine.{Options, Run, invocation}
 use Rattle.script_run.specs.Output.{output, script_output, whole_part}
 use Rattle.script_run.specs.Promise.{WritesAll, WritesWholeLines, WritesBeginning, script_max}
-use Rattle.script_run.specs.Ending.{AnswersAs, EndsAs, status_after}
+use Rattle.script_run.specs.views.Ending.{AnswersAs, EndsAs, status_after}
 use Rattle.script_run.specs.declared.answers.WriteStop.{WriteStop}
 use Rattle.script_run.specs.declared.answers.WriteStop.TheVariants as stop
 use Rattle.script_run.specs.declared.program.Status.{Status}

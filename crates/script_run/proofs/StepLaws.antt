@@ -9,15 +9,15 @@ use Rattle.mvcc_engine.specs.Read.{get}
 use Rattle.mvcc_engine.specs.Step as engine
 use Rattle.mvcc_engine.specs.Step.{State, Reply, Stepped, statistics, step}
 use Rattle.mvcc_key.specs.Order.{Timestamp, Key}
-use Rattle.mvcc_value.specs.Seen.{found_of}
+use Rattle.mvcc_value.specs.views.Seen.{found_of}
 use Rattle.mvcc_value.specs.declared.value.Found.{Found}
 use Rattle.std.specs.Option.{option_map, option_copied}
 use Rattle.script_run.specs.Grammar as grammar
 use Rattle.script_run.specs.Grammar.{Line, parse}
 use Rattle.script_run.specs.Text as text
 use Rattle.script_run.specs.Output.{Carried, carried, carry_out, or_refused, perform, performed, text_of, without_return, statistics_answer}
-use Rattle.mvcc_engine.specs.Seen.{Tells}
-use Rattle.script_run.specs.Answered.{IsAnswered, is_blank}
+use Rattle.mvcc_engine.specs.views.Seen.{Tells}
+use Rattle.script_run.specs.views.Answered.{IsAnswered, is_blank}
 use Rattle.std.proofs.lemmas.Result.{on_ok_weaker}
 use Rattle.script_run.proofs.TextLaws.{two_pieces}
 

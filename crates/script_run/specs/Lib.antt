@@ -5,9 +5,5 @@ pub mod Grammar
 pub mod Statistics
 pub mod Text
 pub mod Output
-pub mod Answered
 pub mod Promise
-pub mod Gathering
-pub mod Seen
-pub mod SeenLine
-pub mod Ending
+pub mod views

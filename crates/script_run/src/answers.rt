@@ -4,8 +4,8 @@ ghost use Rattle.std.specs.Io.KnownBytes.{Appends};
 ghost use Rattle.io_edge.specs.Causes.{HasCause, Rose};
 ghost use Rattle.io_edge.specs.Writing.{AppendsBeginning};
 ghost use Rattle.script_run.specs.Output.{script_output};
-ghost use Rattle.script_run.specs.Gathering.{Gathers, Moves};
-ghost use Rattle.script_run.specs.Seen.{StopsAt};
+ghost use Rattle.script_run.specs.views.Gathering.{Gathers, Moves};
+ghost use Rattle.script_run.specs.views.Seen.{StopsAt};
 
 use crate::command_line::Options;
 use crate::script::first_line;

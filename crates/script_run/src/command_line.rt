@@ -3,7 +3,7 @@ ghost use Rattle.std.specs.Prelude.{◌≡◌, ◌<◌, ◌≤◌, ◌^◌, IfOk
 ghost use Rattle.std.specs.Option.{option_map};
 ghost use Rattle.script_run.specs.CommandLine.{Run, given_options, in_range, invocation, max_count_max, options_of, run_options};
 ghost use Rattle.script_run.specs.Words.{optional};
-ghost use Rattle.script_run.specs.SeenLine.{word_of};
+ghost use Rattle.script_run.specs.views.SeenLine.{word_of};
 
 use crate::forms::number;
 use crate::words::{Word, are_only, has, value_of};

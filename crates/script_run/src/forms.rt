@@ -4,7 +4,7 @@ ghost use Rattle.std.specs.List.{list_all};
 ghost use Rattle.std.specs.Option.{option_map};
 ghost use Rattle.std.specs.Cow.{cow_slice_items};
 ghost use Rattle.mvcc_key.specs.Cutting.{cut_at};
-ghost use Rattle.mvcc_key.specs.Seen.{time_of};
+ghost use Rattle.mvcc_key.specs.views.Seen.{time_of};
 ghost use Rattle.script_run.specs.Forms.{counter, fraction, is_plain, nanos, number_from, number_up_to, text, time, wall};
 
 use crate::unescape::{is_plain, unescape};

@@ -2,12 +2,12 @@
 ghost use Rattle.std.specs.Prelude.{◌≡◌, IfOk, map};
 ghost use Rattle.std.specs.Option.{option_map};
 ghost use Rattle.std.specs.Cow.{cow_slice_items};
-ghost use Rattle.mvcc_key.specs.Seen as key;
+ghost use Rattle.mvcc_key.specs.views.Seen as key;
 ghost use Rattle.script_run.specs.Forms as forms;
 ghost use Rattle.script_run.specs.Words.{required};
 ghost use Rattle.script_run.specs.Grammar.{age, alone, begins_comment, command, compact, del, get, parse, put};
-ghost use Rattle.script_run.specs.Answered.{is_blank};
-ghost use Rattle.script_run.specs.SeenLine.{line_of, word_of};
+ghost use Rattle.script_run.specs.views.Answered.{is_blank};
+ghost use Rattle.script_run.specs.views.SeenLine.{line_of, word_of};
 
 use crate::forms::{self, RunCount, WallTime};
 use crate::words::{Word, are_only, next_word, read_words, value_of};

@@ -4,7 +4,7 @@ ghost use Rattle.io_edge.specs.Causes.{Rose};
 ghost use Rattle.script_run.specs.CommandLine.{invocation};
 ghost use Rattle.script_run.specs.Promise.{TakesWithin, WritesAll, WritesBeginning, WritesWholeLines, script_max};
 ghost use Rattle.script_run.specs.Output.{output, script_output};
-ghost use Rattle.script_run.specs.Ending.{AnswersAs, EndsAs, number_of, status_after};
+ghost use Rattle.script_run.specs.views.Ending.{AnswersAs, EndsAs, number_of, status_after};
 
 use crate::answers::{WriteStop, write_answers};
 use crate::command_line::{Options, read_words};

@@ -1,18 +1,18 @@
 //! What a script has made so far, and what one line does to it.
 ghost use Rattle.std.specs.Prelude.{◌≡◌, ◌++◌, ◌<◌, ◌≤◌, ◌^◌, OnOk, OnErr, IfSome, IsSome, cond, false, [], map};
 ghost use Rattle.std.specs.List.{flat_map};
-ghost use Rattle.lsm_store.specs.Seen.{seen_shape};
+ghost use Rattle.lsm_store.specs.views.Seen.{seen_shape};
 ghost use Rattle.mvcc_key.specs.History.{Bytes};
-ghost use Rattle.mvcc_key.specs.Seen.{time_of};
-ghost use Rattle.mvcc_engine.specs.Seen.{fault_of, refusal_of};
+ghost use Rattle.mvcc_key.specs.views.Seen.{time_of};
+ghost use Rattle.mvcc_engine.specs.views.Seen.{fault_of, refusal_of};
 ghost use Rattle.mvcc_engine.specs.Step.{first_state};
 ghost use Rattle.script_run.specs.Grammar.{Age, Compact, Del, Flush, Get, Layout, Put};
 ghost use Rattle.script_run.specs.Output.{carry_out, layout_answers, performed, statistics_answer, text_of};
-ghost use Rattle.script_run.specs.Answered.{IsAnswered, is_blank};
+ghost use Rattle.script_run.specs.views.Answered.{IsAnswered, is_blank};
 ghost use Rattle.script_run.specs.Promise.{Extends};
 ghost use Rattle.script_run.specs.Text.{ByStore, Refused, show};
-ghost use Rattle.script_run.specs.Seen.{reason_of};
-ghost use Rattle.script_run.specs.SeenLine.{line_of};
+ghost use Rattle.script_run.specs.views.Seen.{reason_of};
+ghost use Rattle.script_run.specs.views.SeenLine.{line_of};
 
 use crate::command_line::Options;
 use crate::grammar::{Line, parse};

@@ -3,7 +3,7 @@ ghost use Rattle.std.specs.Prelude.{◌≡◌, ◌++◌, OnOk, OnErr, codes, dec
 ghost use Rattle.std.specs.List.{flat_map};
 ghost use Rattle.mvcc_key.specs.Field.{all_fields};
 ghost use Rattle.stat_core.specs.ComputeStats as sums;
-ghost use Rattle.stat_core.specs.Seen.{field_of};
+ghost use Rattle.stat_core.specs.views.Seen.{field_of};
 ghost use Rattle.script_run.specs.Statistics.{field_text, statistics_line};
 ghost use Rattle.script_run.specs.Promise.{Extends};
 

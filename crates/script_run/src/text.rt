@@ -3,12 +3,12 @@ ghost use Rattle.std.specs.Prelude.{◌≡◌, ◌++◌, ◌+◌, ◌%◌, ◌^�
 ghost use Rattle.std.specs.Fmt.{signed_decimal};
 ghost use Rattle.std.specs.List.{list_all};
 ghost use Rattle.std.specs.Option.{option_map};
-ghost use Rattle.mvcc_key.specs.Seen.{time_of};
-ghost use Rattle.mvcc_value.specs.Seen.{found_of, owned_body};
+ghost use Rattle.mvcc_key.specs.views.Seen.{time_of};
+ghost use Rattle.mvcc_value.specs.views.Seen.{found_of, owned_body};
 ghost use Rattle.script_run.specs.Text.{Got, escaped, escaped_byte, get_line, is_unescaped, nine_digits, quoted, reason, show, time, value};
-ghost use Rattle.script_run.specs.Seen.{answer_of, reason_of};
+ghost use Rattle.script_run.specs.views.Seen.{answer_of, reason_of};
 ghost use Rattle.stat_core.specs.Names.{field_name};
-ghost use Rattle.stat_core.specs.Seen.{field_of};
+ghost use Rattle.stat_core.specs.views.Seen.{field_of};
 ghost use Rattle.script_run.specs.Promise.{Extends};
 
 use crate::layout::append_layout_line;

@@ -2,7 +2,7 @@
 ghost use Rattle.std.specs.Prelude.{◌≡◌, ◌<◌, IfOk};
 ghost use Rattle.std.specs.Option.{option_map};
 ghost use Rattle.script_run.specs.Forms.{ends, goes_on, is_plain, pass, text};
-ghost use Rattle.script_run.specs.SeenLine.{passed_of, place_of};
+ghost use Rattle.script_run.specs.views.SeenLine.{passed_of, place_of};
 
 use crate::hex::{HexDigit, hex_digit};
 use mvcc_key::OutOfMemory;

@@ -4,7 +4,7 @@ ghost use Rattle.std.specs.Option.{option_map};
 ghost use Rattle.std.specs.List.{list_any, list_all};
 ghost use Rattle.script_run.specs.Words.{are_distinct, are_only, has, is_allowed, is_among, is_blank, is_named, value_of, words};
 ghost use Rattle.script_run.specs.Words as spec;
-ghost use Rattle.script_run.specs.SeenLine.{word_of};
+ghost use Rattle.script_run.specs.views.SeenLine.{word_of};
 
 use crate::forms::cut;
 use mvcc_key::OutOfMemory;

@@ -8,7 +8,7 @@ use Rattle.std.proofs.lemmas.Int.{ints}
 use Rattle.std.proofs.lemmas.List.{get_or-set_other}
 use Rattle.mvcc_key.specs.Field.{Field, all_fields, KeyCount, KeyBytes, ValCount, ValBytes, LiveCount, LiveBytes, IntentCount, IntentBytes, IntentAge, GcBytesAge, RangeKeyCount, RangeKeyBytes, RangeValCount, RangeValBytes}
 use Rattle.stat_core.specs.ComputeStats.{field, overflowing}
-use Rattle.stat_core.specs.Counters.{count_at, number_at, moved_by, changed_number, AreCounted, IsFirstAbove}
+use Rattle.stat_core.specs.views.Counters.{count_at, number_at, moved_by, changed_number, AreCounted, IsFirstAbove}
 use Rattle.stat_core.specs.Running.{place_of, sums_of}
 use Rattle.stat_core.specs.Settling.{NoDebt, whole, whole_sums}
 use Rattle.stat_core.specs.declared.counters.Sign.{Sign}

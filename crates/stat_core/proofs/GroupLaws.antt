@@ -5,7 +5,7 @@ use Rattle.std.proofs.Common.{sym, ◌∙◌, ap, arith}
 use Rattle.std.proofs.lemmas.Int.{ints}
 use Rattle.std.specs.List.{AllByRecursion}
 use Rattle.mvcc_key.specs.Order.{Timestamp}
-use Rattle.stat_core.specs.Seen.{version_of}
+use Rattle.stat_core.specs.views.Seen.{version_of}
 use Rattle.stat_core.specs.declared.shape.VersionShape as code
 use Rattle.stat_core.specs.DeadSince.{VersionShape, dead_since}
 use Rattle.stat_core.specs.ComputeStats.{Sums, live_or_garbage, version_sums, versions_sums, KeyShape, live_key, own_sums, newest_dead, intent_sums, key_sums}

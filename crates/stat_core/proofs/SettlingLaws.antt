@@ -7,7 +7,7 @@ use Rattle.mvcc_key.specs.Fragments.{Fragment}
 use Rattle.mvcc_key.specs.Field.{Field, KeyCount, KeyBytes, ValCount, ValBytes, LiveCount, LiveBytes, IntentCount, IntentBytes, IntentAge, GcBytesAge, RangeKeyCount, RangeKeyBytes, RangeValCount, RangeValBytes}
 use Rattle.stat_core.specs.ComputeStats.{Sums, age, compute_stats, field, garbage_bytes, aged}
 use Rattle.stat_core.specs.Running.{Running}
-use Rattle.stat_core.specs.Seen.{number}
+use Rattle.stat_core.specs.views.Seen.{number}
 use Rattle.stat_core.specs.Settling.{garbage, aged_number, settled_number, NoDebt, whole, whole_sums, aged_to, settled}
 use Rattle.stat_core.specs.Laws.{AreOf, computed, IsChange}
 use Rattle.stat_core.specs.declared.group.Group.{Group}

@@ -4,9 +4,9 @@ use Rattle.std.proofs.Common.{refl, sym, ◌∙◌, ap, subst, arith}
 use Rattle.std.proofs.lemmas.Int.{ints}
 use Rattle.mvcc_key.specs.Field.{Field, KeyCount, KeyBytes, ValCount, ValBytes, LiveCount, LiveBytes, IntentCount, IntentBytes, IntentAge, GcBytesAge, RangeKeyCount, RangeKeyBytes, RangeValCount, RangeValBytes}
 use Rattle.stat_core.specs.ComputeStats.{age, field, overflowing, no_sums}
-use Rattle.stat_core.specs.Counters.{number_at, moved_by, changed_number, moved_number, AreCounted, IsFirstAbove}
+use Rattle.stat_core.specs.views.Counters.{number_at, moved_by, changed_number, moved_number, AreCounted, IsFirstAbove}
 use Rattle.stat_core.specs.Running.{Running, sums_of}
-use Rattle.stat_core.specs.Seen.{number}
+use Rattle.stat_core.specs.views.Seen.{number}
 use Rattle.stat_core.specs.Settling.{gain, NoDebt, raised_number, lowered_number, aged_number, settled_number, whole, whole_sums, with_numbers, raised, lowered, aged_to, settled}
 use Rattle.stat_core.specs.declared.counters.Sign.{Sign}
 use Rattle.stat_core.specs.declared.counters.Sign.TheVariants.{Plus, Minus}

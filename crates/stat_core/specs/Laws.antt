@@ -10,7 +10,7 @@ use Rattle.mvcc_key.specs.Field.{Field}
 use Rattle.stat_core.specs.DeadSince.{VersionShape}
 use Rattle.stat_core.specs.ComputeStats.{Sums, no_sums, ◌⊕◌, total, is_record, pairs_of, keys_of, KeyShape, key_shape, key_sums, sums_at, sums_of_fragment, compute_stats, compute_span, field, difference, aged, cut_correction}
 use Rattle.stat_core.specs.Running.{Running}
-use Rattle.stat_core.specs.Seen.{number}
+use Rattle.stat_core.specs.views.Seen.{number}
 use Rattle.stat_core.specs.Settling.{NoDebt, aged_number, settled_number, aged_to, settled}
 use Rattle.stat_core.specs.declared.group.Group.{Group}
 

@@ -1,10 +1,7 @@
 pub mod DeadSince
 pub mod ComputeStats
-pub mod Limits
 pub mod Names
 pub mod Running
-pub mod Seen
 pub mod Settling
-pub mod Counters
-pub mod Tallies
 pub mod Laws
+pub mod views

@@ -3,7 +3,7 @@ use Rattle.std.specs.Prelude.{ℕ, ◌+◌, ◌*◌, ℤ, pos, negsuc, ◌+ℤ�
 use Rattle.mvcc_key.specs.Field.{Field, KeyCount, KeyBytes, ValCount, ValBytes, LiveCount, LiveBytes, IntentCount, IntentBytes, IntentAge, GcBytesAge, RangeKeyCount, RangeKeyBytes, RangeValCount, RangeValBytes}
 use Rattle.stat_core.specs.ComputeStats.{Sums, age, field}
 use Rattle.stat_core.specs.Running.{Running}
-use Rattle.stat_core.specs.Seen.{number}
+use Rattle.stat_core.specs.views.Seen.{number}
 use Rattle.stat_core.specs.declared.group.Group.{Group}
 
 -- the bytes that are not live

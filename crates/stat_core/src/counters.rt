@@ -1,9 +1,9 @@
 //! Fourteen counters that change as one: each result is compared with the bound before any is written.
 ghost use Rattle.std.specs.Prelude.{◌≡◌, ◌≤◌, ◌<◌, ◌^◌, ℤ, pos, ◌+ℤ◌, ◌-◌, ◌-ℤ◌, ◌*ℤ◌, ◌<ℤ◌, ◌≤ℤ◌, MatchBool, MatchOption, MatchResult, None, Some};
 ghost use Rattle.mvcc_key.specs.Field as fields;
-ghost use Rattle.stat_core.specs.Counters.{IsWithin, moved_by, number_at, changed_number, AreCounted, IsFirstAbove};
+ghost use Rattle.stat_core.specs.views.Counters.{IsWithin, moved_by, number_at, changed_number, AreCounted, IsFirstAbove};
 ghost use Rattle.stat_core.specs.Running.{sums_of};
-ghost use Rattle.stat_core.specs.Seen.{field_of};
+ghost use Rattle.stat_core.specs.views.Seen.{field_of};
 ghost use Rattle.stat_core.specs.Settling.{garbage, gain, NoDebt};
 
 use crate::{CountOverflow, Field};

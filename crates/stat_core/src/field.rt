@@ -2,7 +2,7 @@
 ghost use Rattle.std.specs.Prelude.{◌≡◌, ◌<◌, Some};
 ghost use Rattle.stat_core.specs.Names.{field_name, overflow_text};
 ghost use Rattle.stat_core.specs.Running.{place_of};
-ghost use Rattle.stat_core.specs.Seen.{field_of};
+ghost use Rattle.stat_core.specs.views.Seen.{field_of};
 
 use std::error::Error;
 use std::fmt;

@@ -3,7 +3,7 @@ ghost use Rattle.std.specs.Prelude.{◌≡◌, ◌-ℤ◌, FitsSigned, slice_ind
 ghost use Rattle.std.specs.Int.{w128};
 ghost use Rattle.mvcc_key.specs.Field.{Field};
 ghost use Rattle.stat_core.specs.Running.{place_of};
-ghost use Rattle.stat_core.specs.Seen.{number};
+ghost use Rattle.stat_core.specs.views.Seen.{number};
 
 /// What some pairs add to the statistics, or by how much a change moves them: counts, bytes, and ages in byte seconds (of
 /// intents in seconds).

@@ -2,15 +2,15 @@
 ghost use Rattle.std.specs.Prelude.{◌≡◌, ◌≤◌, ◌^◌, [], pos};
 ghost use Rattle.std.specs.Option.{option_map};
 ghost use Rattle.mvcc_key.specs.Field.{Field};
-ghost use Rattle.mvcc_key.specs.Seen.{time_of};
+ghost use Rattle.mvcc_key.specs.views.Seen.{time_of};
 ghost use Rattle.stat_core.specs.ComputeStats.{newest_dead, newest_length, intent_sums, key_sums, field};
-ghost use Rattle.stat_core.specs.Limits.{IsInLimits};
-ghost use Rattle.stat_core.specs.Seen.{number, key_shape_of, lent_shape_of};
+ghost use Rattle.stat_core.specs.views.Limits.{IsInLimits};
+ghost use Rattle.stat_core.specs.views.Seen.{number, key_shape_of, lent_shape_of};
 
 use crate::Group;
 use crate::seconds::seconds_between;
 use crate::tally::{TIMESTAMP_BYTES, Tally, dead_since, live_keys, signed};
-use mvcc_key::{Items, Timestamp};
+use mvcc_key::{Elements, Timestamp};
 
 /// A version without its bytes: its timestamp, the length of its encoded value, and whether it is a deletion.
 #[derive(Clone, Copy, Debug)]
@@ -28,8 +28,8 @@ pub struct GroupShape {
     pub key_len: u64,
     pub record_len: u64,
     pub intent: Option<Timestamp>,
-    pub versions: Items<VersionShape>,
-    pub stack: Items<Timestamp>,
+    pub versions: Elements<VersionShape>,
+    pub stack: Elements<Timestamp>,
 }
 
 /// A [`GroupShape`] whose lists are lent.

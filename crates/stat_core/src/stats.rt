@@ -2,8 +2,8 @@
 ghost use Rattle.std.specs.Prelude.{◌≡◌, ◌≤◌, ◌<◌, ◌^◌, OnOk, OnErr, None};
 ghost use Rattle.mvcc_key.specs.Field as fields;
 ghost use Rattle.stat_core.specs.ComputeStats.{no_sums, overflowing};
-ghost use Rattle.stat_core.specs.Counters.{IsWithin, number_at, moved_number};
-ghost use Rattle.stat_core.specs.Seen.{refused_field};
+ghost use Rattle.stat_core.specs.views.Counters.{IsWithin, number_at, moved_number};
+ghost use Rattle.stat_core.specs.views.Seen.{refused_field};
 ghost use Rattle.stat_core.specs.Settling.{NoDebt, raised_number, lowered_number, aged_number, settled_number, whole_sums, with_numbers, raised, lowered, aged_to, settled};
 
 use crate::counters::{Sign, changed, gains};

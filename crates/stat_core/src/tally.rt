@@ -2,11 +2,11 @@
 ghost use Rattle.std.specs.Prelude.{◌≡◌, ◌≤◌, ◌<◌, ◌+◌, ◌*◌, ◌^◌, [], length, map, pos, None};
 ghost use Rattle.std.specs.List.{AllByRecursion};
 ghost use Rattle.std.specs.Option.{option_map};
-ghost use Rattle.mvcc_key.specs.Seen.{time_of};
+ghost use Rattle.mvcc_key.specs.views.Seen.{time_of};
 ghost use Rattle.stat_core.specs.ComputeStats.{age, live_or_garbage, versions_sums, live_key};
 ghost use Rattle.stat_core.specs.DeadSince.{dead_since};
-ghost use Rattle.stat_core.specs.Seen.{version_of};
-ghost use Rattle.stat_core.specs.Tallies.{Counts};
+ghost use Rattle.stat_core.specs.views.Seen.{version_of};
+ghost use Rattle.stat_core.specs.views.Tallies.{Counts};
 
 use crate::VersionShape;
 use crate::seconds::seconds_between;

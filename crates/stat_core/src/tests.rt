@@ -1,11 +1,11 @@
 ghost use Rattle.std.specs.Prelude.{◌≡◌, ◌≤ℤ◌, ◌+ℤ◌, pos};
 ghost use Rattle.mvcc_key.specs.Field as fields;
 ghost use Rattle.stat_core.specs.ComputeStats.{field};
-ghost use Rattle.stat_core.specs.Limits.{IsInLimits};
-ghost use Rattle.stat_core.specs.Seen.{number as fields_number, lent_shape_of};
+ghost use Rattle.stat_core.specs.views.Limits.{IsInLimits};
+ghost use Rattle.stat_core.specs.views.Seen.{number as fields_number, lent_shape_of};
 
 use super::*;
-use mvcc_key::{Items, Timestamp};
+use mvcc_key::{Elements, Timestamp};
 use std::process::Abort;
 use std::test::Fail;
 
@@ -113,8 +113,8 @@ fn an_intent_counts_with_its_record(rt: HostRuntime) -> Result<(), Fail> {
         key_len: 1,
         record_len: 45,
         intent: Some(at(2 * SECOND)),
-        versions: Items::of(provisional),
-        stack: Items::new(rt.alloc()),
+        versions: Elements::from_vec(provisional),
+        stack: Elements::new(rt.alloc()),
     };
     let written = Group {
         val_bytes: 53,

@@ -4,7 +4,7 @@ use Rattle.std.specs.Int.{w128, to_be_bytes, from_be_bytes}
 use Rattle.std.proofs.lemmas.Bool.Decides.{Decides-eqb, Decides-like, same_from_decides}
 use Rattle.std.proofs.lemmas.Slice.Eq.{bytes_eq-Decides}
 use Rattle.uuid.proofs.OrderLemmas.{from_be_bytes-to_be_bytes_16}
-use Rattle.txn_state.specs.SeenId.{id_of}
+use Rattle.txn_state.specs.views.SeenId.{id_of}
 use Rattle.txn_state.specs.declared.id.TxnId.{TxnId}
 
 -- sixteen bytes are those of the number that they make

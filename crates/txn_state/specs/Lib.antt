@@ -1,5 +1,2 @@
 pub mod Transaction
-pub mod SeenId
-pub mod SeenTxn
-pub mod Seen
-pub mod Texts
+pub mod views

@@ -1,9 +1,9 @@
 //! Who reads or writes.
 ghost use Rattle.std.specs.Prelude.{◌≡◌};
 ghost use Rattle.std.specs.Option.{option_copied};
-ghost use Rattle.mvcc_key.specs.Seen.{time_of};
-ghost use Rattle.txn_state.specs.Seen.{actor_of};
-ghost use Rattle.txn_state.specs.SeenId.{id_of};
+ghost use Rattle.mvcc_key.specs.views.Seen.{time_of};
+ghost use Rattle.txn_state.specs.views.Seen.{actor_of};
+ghost use Rattle.txn_state.specs.views.SeenId.{id_of};
 ghost use Rattle.txn_state.specs.Transaction.{read_time, write_time, uncertainty_limit, own_txn};
 
 use crate::{Txn, TxnId};

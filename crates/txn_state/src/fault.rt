@@ -17,7 +17,7 @@ pub enum TxnFault {
 
 impl fmt::Display for TxnFault {
     ghost use Rattle.std.specs.Prelude.{Some};
-    ghost use Rattle.txn_state.specs.Texts.{limit_text};
+    ghost use Rattle.txn_state.specs.views.Texts.{limit_text};
 
     ghost output = { λ fault. Some (limit_text fault) };
 
@@ -45,7 +45,7 @@ pub enum IgnoreFault {
 
 impl fmt::Display for IgnoreFault {
     ghost use Rattle.std.specs.Prelude.{Some};
-    ghost use Rattle.txn_state.specs.Texts.{ignore_text};
+    ghost use Rattle.txn_state.specs.views.Texts.{ignore_text};
 
     ghost output = { λ fault. Some (ignore_text fault) };
 

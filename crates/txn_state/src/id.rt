@@ -1,6 +1,6 @@
 //! Ids of transactions.
 ghost use Rattle.std.specs.Prelude.{◌≡◌, bytes_eq};
-ghost use Rattle.txn_state.specs.SeenId.{id_of};
+ghost use Rattle.txn_state.specs.views.SeenId.{id_of};
 
 use uuid::Uuid;
 

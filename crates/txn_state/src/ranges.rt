@@ -1,6 +1,6 @@
 //! Ranges of sequences that rise.
 ghost use Rattle.std.specs.Prelude.{◌≡◌};
-ghost use Rattle.txn_state.specs.Seen.{ranges_of};
+ghost use Rattle.txn_state.specs.views.Seen.{ranges_of};
 ghost use Rattle.txn_state.specs.Transaction.{are_ranges};
 
 use crate::txn::MAX_COUNT;

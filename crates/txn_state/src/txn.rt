@@ -2,9 +2,9 @@
 ghost use Rattle.std.specs.Prelude.{◌≡◌, ◌↔◌, ◌+◌, ◌<◌, ◌≤◌, ◌≢◌, bytes_eq, length, IsTrue, IsErrOf, OnErr, false, Err};
 ghost use Rattle.mvcc_key.specs.Limits.{max_count};
 ghost use Rattle.mvcc_key.specs.Order.{is_up_to};
-ghost use Rattle.mvcc_key.specs.Seen.{time_of};
-ghost use Rattle.txn_state.specs.Seen.{ranges_of, outcome_of, Answers};
-ghost use Rattle.txn_state.specs.SeenId.{id_of};
+ghost use Rattle.mvcc_key.specs.views.Seen.{time_of};
+ghost use Rattle.txn_state.specs.views.Seen.{ranges_of, outcome_of, Answers};
+ghost use Rattle.txn_state.specs.views.SeenId.{id_of};
 ghost use Rattle.txn_state.specs.Transaction.{begun, stepped, advanced, refreshed, restarted, are_ranges, ignoring};
 
 use crate::ranges::are_rising;
@@ -51,7 +51,7 @@ impl Model for Txn {
 
     ghost Value = { Transaction };
 
-    ghost use Rattle.txn_state.specs.SeenTxn.{txn_of};
+    ghost use Rattle.txn_state.specs.views.SeenTxn.{txn_of};
     ghost use Rattle.txn_state.specs.Transaction.{IsWhole};
 
     ghost view = { txn_of };

@@ -5,10 +5,10 @@ ghost use Rattle.std.specs.declared.cmp.Ordering.TheVariants.{Less};
 ghost use Rattle.mvcc_key.specs.Order.{name_cmp};
 ghost use Rattle.mvcc_key.specs.KeyFormat.{name_of};
 ghost use Rattle.mvcc_key.specs.Encoded.{name_in};
-ghost use Rattle.mvcc_key.specs.SeenPoint.{AreNamed, IsAboveLast};
+ghost use Rattle.mvcc_key.specs.views.SeenPoint.{AreNamed, IsAboveLast};
 ghost use Rattle.mem_table.specs.Entries.{AreEntries, IsStorable, IsBatch};
 
-use mvcc_key::{Batch, Items, OutOfMemory, PointOp, cmp_encoded, decode_key};
+use mvcc_key::{Batch, Elements, OutOfMemory, PointOp, cmp_encoded, decode_key};
 use std::alloc::Global;
 use std::cmp::Ordering;
 
@@ -41,8 +41,8 @@ impl Rising {
     {
         let alloc = *self.held.allocator();
         Batch {
-            points: Items::of(self.held),
-            ranges: Items::new(alloc),
+            points: Elements::from_vec(self.held),
+            ranges: Elements::new(alloc),
         }
     }
 }

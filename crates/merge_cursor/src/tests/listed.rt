@@ -6,7 +6,7 @@ ghost use Rattle.std.specs.declared.cmp.Ordering.TheVariants.{Less};
 ghost use Rattle.mvcc_key.specs.Order.{name_cmp};
 ghost use Rattle.mvcc_key.specs.KeyFormat.{name_of};
 ghost use Rattle.mvcc_key.specs.Encoded.{name_in};
-ghost use Rattle.mvcc_key.specs.SeenPoint.{points_of, AreNamed, IsAboveLast};
+ghost use Rattle.mvcc_key.specs.views.SeenPoint.{points_of, AreNamed, IsAboveLast};
 
 use mvcc_key::{OutOfMemory, PointOp, SortedPairs, cmp_encoded, decode_key, head_in};
 use std::alloc::Global;

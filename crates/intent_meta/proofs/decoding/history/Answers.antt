@@ -1,6 +1,6 @@
 use Rattle.std.proofs.Common.{None, ◌∙◌}
 use Rattle.std.proofs.lemmas.Result.{err_from_is_err_and}
-use Rattle.intent_meta.specs.Seen.{seen_entry}
+use Rattle.intent_meta.specs.views.Seen.{seen_entry}
 use Rattle.intent_meta.proofs.EntriesLaws.{rest-front, rest-next, rest-fault, rest-end}
 use Rattle.intent_meta.proofs.decoding.history.Goals as goal
 

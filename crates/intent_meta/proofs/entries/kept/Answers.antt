@@ -1,4 +1,4 @@
-use Rattle.intent_meta.specs.Seen.{seen_entry}
+use Rattle.intent_meta.specs.views.Seen.{seen_entry}
 use Rattle.intent_meta.proofs.WalkLaws.{StillKept-front, StillKept-next, StillKept-end}
 use Rattle.intent_meta.proofs.entries.kept.Goals as goal
 

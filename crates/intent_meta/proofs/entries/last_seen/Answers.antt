@@ -1,6 +1,6 @@
 use Rattle.std.proofs.Common.{◌∙◌, sym}
 use Rattle.std.specs.Option.{option_map}
-use Rattle.intent_meta.specs.Seen.{seen_entry}
+use Rattle.intent_meta.specs.views.Seen.{seen_entry}
 use Rattle.intent_meta.proofs.WalkLaws.{StillSeen-front, StillSeen-seen, StillSeen-passed, StillSeen-end}
 use Rattle.intent_meta.proofs.entries.last_seen.Goals as goal
 

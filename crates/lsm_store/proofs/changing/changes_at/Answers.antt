@@ -6,7 +6,7 @@ use Rattle.mvcc_key.specs.Order.{Name}
 use Rattle.mvcc_key.specs.Encoded.{name_in}
 use Rattle.mvcc_key.specs.Points.{Point}
 use Rattle.mem_table.specs.Table.{state_of}
-use Rattle.lsm_store.specs.Changing.{is_change}
+use Rattle.lsm_store.specs.views.Changing.{is_change}
 use Rattle.lsm_store.proofs.SoughtLaws.{value-change, known_here, known_behind}
 use Rattle.lsm_store.proofs.ApplyLaws.{change-shown}
 use Rattle.lsm_store.proofs.changing.changes_at.Goals as goal

@@ -2,7 +2,7 @@ use Rattle.std.proofs.Common.{◌∙◌, ◌+◌, List, ℕ, ap}
 use Rattle.std.specs.Prelude.{Some}
 use Rattle.mvcc_key.specs.Encoded.{name_in}
 use Rattle.mvcc_key.specs.Points.{key_at, count_below}
-use Rattle.lsm_store.specs.Changing.{is_same_value}
+use Rattle.lsm_store.specs.views.Changing.{is_same_value}
 use Rattle.lsm_store.proofs.SoughtLaws.{IsSought, sought-there, sought-gone}
 use Rattle.lsm_store.proofs.changing.changes_part.Goals as goal
 

@@ -1,7 +1,7 @@
 use Rattle.std.proofs.Common.{◌≡◌, map, take}
 use Rattle.std.specs.Prelude.{None}
 use Rattle.mvcc_key.specs.Order.{Name}
-use Rattle.mvcc_key.specs.Seen.{time_of}
+use Rattle.mvcc_key.specs.views.Seen.{time_of}
 use Rattle.mem_table.specs.Table.{state_of}
 use Rattle.merge_cursor.specs.Merged.{joined}
 use Rattle.lsm_store.proofs.ApplyLaws.{value_in}

@@ -2,7 +2,7 @@ use Rattle.std.proofs.Common.{◌≡◌, true, map, refl, sym, ap, subst, ◌∙
 use Rattle.std.specs.Prelude.{All}
 use Rattle.std.specs.Ordering.{is_lt}
 use Rattle.mvcc_key.specs.Order.{Timestamp, no_time, is_no_time, is_before, is_up_to}
-use Rattle.mvcc_key.specs.Seen.{time_of}
+use Rattle.mvcc_key.specs.views.Seen.{time_of}
 use Rattle.mvcc_key.proofs.OrderLaws.{not_up_to-before, not_up_to-none}
 use Rattle.lsm_store.proofs.TimeLaws.{unset-above}
 use Rattle.lsm_store.proofs.changing.ends_before.Goals as goal

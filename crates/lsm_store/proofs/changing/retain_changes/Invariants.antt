@@ -1,8 +1,8 @@
 use Rattle.std.proofs.Common.{◌∷◌, map}
 use Rattle.std.proofs.lemmas.List.Filters.{FiltersInPlace}
-use Rattle.mvcc_key.specs.SeenPoint.{point_of}
+use Rattle.mvcc_key.specs.views.SeenPoint.{point_of}
 use Rattle.lsm_store.specs.Shown.{shown}
-use Rattle.lsm_store.specs.Changing.{changes_points}
+use Rattle.lsm_store.specs.views.Changing.{changes_points}
 use Rattle.lsm_store.proofs.changing.retain_changes.Given as goal
 
 abbrev pub ghosts-changes : goal.ghosts-changes

@@ -7,7 +7,7 @@ use Rattle.mvcc_key.specs.Encoded.{name_in}
 use Rattle.mvcc_key.specs.Points.{Point}
 use Rattle.mem_table.specs.Table.{state_of}
 use Rattle.merge_cursor.specs.Merged.{joined}
-use Rattle.lsm_store.specs.Changing.{is_change}
+use Rattle.lsm_store.specs.views.Changing.{is_change}
 use Rattle.lsm_store.proofs.SoughtLaws.{next_left, known_here, known_behind}
 use Rattle.lsm_store.proofs.changing.seek_change.Goals as goal
 

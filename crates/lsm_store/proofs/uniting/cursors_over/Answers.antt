@@ -3,7 +3,7 @@ use Rattle.std.proofs.lemmas.List.{map-append, map_more}
 use Rattle.std.proofs.lemmas.List.Elements.{All-more}
 use Rattle.mem_table.specs.Entries.{IsStoredPoint}
 use Rattle.run_block.specs.RunFormat.{Run}
-use Rattle.lsm_store.specs.Cursors.{points_at}
+use Rattle.lsm_store.specs.views.Cursors.{points_at}
 use Rattle.lsm_store.specs.declared.part.PartCursor.{PartCursor}
 use Rattle.lsm_store.proofs.uniting.cursors_over.Goals as goal
 

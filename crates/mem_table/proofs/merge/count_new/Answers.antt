@@ -2,7 +2,7 @@ use Rattle.std.proofs.Common.{List, ◌≡◌, ◌++◌, ◌∷◌, [], length, 
 use Rattle.std.proofs.lemmas.List.{nil_from_length, length-take-le}
 use Rattle.mvcc_key.specs.declared.batch.PointOp.{PointOp}
 use Rattle.mem_table.specs.Entries.{AreEntries}
-use Rattle.mem_table.specs.Places.{op_cmp, newest_ops, listed, AreNumbersOf}
+use Rattle.mem_table.specs.views.Places.{op_cmp, newest_ops, listed, AreNumbersOf}
 use Rattle.mvcc_key.proofs.SortedLaws.{in_order-same}
 use Rattle.mem_table.proofs.EntryLaws.{sorted-entries, entries-take, entries-front}
 use Rattle.mem_table.proofs.StepLaws.{IsStep}

@@ -1,6 +1,6 @@
 use Rattle.std.proofs.Common.{◌≡◌, ◌≤◌, ◌+◌, ◌-◌, length, take}
 use Rattle.mem_table.specs.Entries.{AreEntries}
-use Rattle.mem_table.specs.Places.{newest_ops, listed}
+use Rattle.mem_table.specs.views.Places.{newest_ops, listed}
 use Rattle.mem_table.proofs.merge.count_new.Given as goal
 
 abbrev pub invariant-loop-op : goal.invariant-loop-op

@@ -1,7 +1,7 @@
 use Rattle.std.proofs.Common.{ℕ, List, subst, ap₂}
 use Rattle.mvcc_key.specs.Encoded.{name_in}
 use Rattle.mvcc_key.specs.declared.batch.PointOp.{PointOp}
-use Rattle.mem_table.specs.Places.{listed, IsRangeOf}
+use Rattle.mem_table.specs.views.Places.{listed, IsRangeOf}
 use Rattle.mem_table.proofs.merge.merge_one.Goals as goal
 
 pub put_one-requires-clause-range : goal.put_one-requires-clause-range

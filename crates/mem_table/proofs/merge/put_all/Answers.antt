@@ -1,7 +1,7 @@
 use Rattle.std.proofs.Common.{◌≡◌, List, [], length, take, sym, subst, arith}
 use Rattle.std.proofs.lemmas.List.{nil_from_length}
 use Rattle.mvcc_key.specs.declared.batch.PointOp.{PointOp}
-use Rattle.mem_table.specs.Places.{newest_ops, listed, AreNumbersOf}
+use Rattle.mem_table.specs.views.Places.{newest_ops, listed, AreNumbersOf}
 use Rattle.mem_table.proofs.MergeLaws.{IsMerging, IsNext, IsMerged, merging-first, merging-numbers, merging-next, merging-known, merging-step, merging-last}
 use Rattle.mem_table.proofs.merge.put_all.Goals as goal
 

@@ -1,5 +1,5 @@
 use Rattle.std.proofs.Common.{◌≤◌, ◌^◌, length, take, vec_len, vec_capacity}
-use Rattle.mem_table.specs.Places.{newest_ops, listed}
+use Rattle.mem_table.specs.views.Places.{newest_ops, listed}
 use Rattle.mem_table.proofs.MergeLaws.{IsMerging}
 use Rattle.mem_table.proofs.merge.put_all.Given as goal
 

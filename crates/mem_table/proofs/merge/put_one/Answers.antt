@@ -3,7 +3,7 @@ use Rattle.std.specs.Prelude.{slice_get, Some}
 use Rattle.std.specs.List.{insert}
 use Rattle.mvcc_key.specs.Encoded.{name_in}
 use Rattle.mvcc_key.specs.declared.batch.PointOp.{PointOp}
-use Rattle.mem_table.specs.Places.{listed, IsRangeOf, IsStored}
+use Rattle.mem_table.specs.views.Places.{listed, IsRangeOf, IsStored}
 use Rattle.mem_table.proofs.OneLaws.{one-known, one-new}
 use Rattle.mem_table.proofs.merge.put_one.Goals.{then-is_new+else-len-ge-MAX_NAMES+in_ok-reserve+in_ok-insert, else-is_new}
 use Rattle.mem_table.proofs.merge.put_one.Goals as goal

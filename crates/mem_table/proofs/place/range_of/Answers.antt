@@ -6,7 +6,7 @@ use Rattle.std.proofs.lemmas.Cmp.{tied_back}
 use Rattle.mvcc_key.specs.Order.{name_cmp}
 use Rattle.mvcc_key.specs.Encoded.{name_in}
 use Rattle.mvcc_key.proofs.OrderLaws.{name_cmp-total}
-use Rattle.mem_table.specs.Places.{name_of_op, listed}
+use Rattle.mem_table.specs.views.Places.{name_of_op, listed}
 use Rattle.mem_table.proofs.RangeLaws.{narrowed-below, narrowed-above, range-found}
 use Rattle.mem_table.proofs.place.range_of.Goals as goal
 

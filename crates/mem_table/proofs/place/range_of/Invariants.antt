@@ -1,5 +1,5 @@
 use Rattle.std.proofs.Common.{◌-◌}
-use Rattle.mem_table.specs.Places.{listed}
+use Rattle.mem_table.specs.views.Places.{listed}
 use Rattle.mem_table.proofs.RangeLaws.{IsNarrowed}
 use Rattle.mem_table.proofs.place.range_of.Given as goal
 

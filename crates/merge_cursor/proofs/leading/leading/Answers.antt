@@ -1,5 +1,5 @@
 use Rattle.std.proofs.Common.{◌<◌, ◌+◌, ℕ, length, sym, subst, ◌∙◌, arith}
-use Rattle.merge_cursor.specs.Standing.{standings, heads}
+use Rattle.merge_cursor.specs.views.Standing.{standings, heads}
 use Rattle.merge_cursor.proofs.LeadingLaws.{IsLeadingAmong, leading-better, leading-kept, leading-all}
 use Rattle.merge_cursor.proofs.HeadLaws.{length-heads}
 use Rattle.merge_cursor.proofs.leading.leading.Goals as goal

@@ -1,4 +1,4 @@
-use Rattle.merge_cursor.specs.Standing.{standings, heads}
+use Rattle.merge_cursor.specs.views.Standing.{standings, heads}
 use Rattle.merge_cursor.proofs.LeadingLaws.{IsLeadingAmong}
 use Rattle.merge_cursor.proofs.leading.leading.Given as goal
 

@@ -4,7 +4,7 @@ use Rattle.std.proofs.lemmas.Option.{slice_get_read}
 use Rattle.mvcc_key.specs.KeyFormat.{name_of}
 use Rattle.mvcc_key.specs.Encoded.{name_in}
 use Rattle.mvcc_key.specs.Points.{Point}
-use Rattle.merge_cursor.specs.Standing.{standings, heads, head_of, precedes}
+use Rattle.merge_cursor.specs.views.Standing.{standings, heads, head_of, precedes}
 use Rattle.merge_cursor.proofs.LeadingLaws.{head_of-past}
 use Rattle.merge_cursor.proofs.HeadLaws.{head_of-part, length-heads, HasHead, has_head, no_head, head_name, leads-is}
 use Rattle.merge_cursor.proofs.leading.leads.Goals as goal

@@ -1,8 +1,8 @@
 use Rattle.std.proofs.Common.{◌≡◌, ◌<◌, length, get_or, sym, subst, ◌∙◌, arith}
 use Rattle.std.specs.Prelude.{IsTrue}
 use Rattle.std.proofs.lemmas.List.{map-set, get_or-map, length-map}
-use Rattle.merge_cursor.specs.Moves.{moved, takes_look, looks_of}
-use Rattle.merge_cursor.specs.Standing.{Standing, standing, standings}
+use Rattle.merge_cursor.specs.views.Moves.{moved, takes_look, looks_of}
+use Rattle.merge_cursor.specs.views.Standing.{Standing, standing, standings}
 use Rattle.merge_cursor.proofs.MoveLaws.{changed_more, some_more, looks_more}
 use Rattle.merge_cursor.proofs.moves.move_all.Goals as goal
 
@@ -24,8 +24,8 @@ loop-part-preserved g c =
     let more = changed_more (moved to) start (all parts) i (seen x) (seen new) lt inv.parts at e.part in
     record {
       parts = map-set seen parts i new ∙ more.0;
-      some = some_more (λ s. takes_look to s.points s.place) start i (seen x) _ c.loop-part.steps c.move_part.new.steps lt more.1 inv.some inv.later e.later e.some;
+      some = some_more (λ s. takes_look to s.points s.place) start i (seen x) _ c.loop-part.looks c.move_part.new.looks lt more.1 inv.some inv.later e.later e.some;
       later = omega (arith, inv.later, e.later);
-      looks = λ parts_all. looks_more (λ s. looks_of to s.points) start i (seen x) _ c.loop-part.steps c.move_part.new.steps lt more.1 (inv.looks parts_all)
+      looks = λ parts_all. looks_more (λ s. looks_of to s.points) start i (seen x) _ c.loop-part.looks c.move_part.new.looks lt more.1 (inv.looks parts_all)
           (e.looks (let P : Standing → Type 0 = λ s. IsTrue s.is_part in subst P (sym more.1) (parts_all i (seen x) lt)));
     }

@@ -2,8 +2,8 @@ use Rattle.std.proofs.Common.{◌≡◌, ◌++◌, ◌∷◌, ℕ, List, length,
 use Rattle.std.specs.Prelude.{Some, None, IsSome, IsTrue}
 use Rattle.mvcc_key.specs.Points.{Point}
 use Rattle.mvcc_key.specs.Encoded.{name_in}
-use Rattle.merge_cursor.specs.Moves.{takes_look}
-use Rattle.merge_cursor.specs.Standing.{Standing}
+use Rattle.merge_cursor.specs.views.Moves.{takes_look}
+use Rattle.merge_cursor.specs.views.Standing.{Standing}
 use Rattle.merge_cursor.proofs.HeadLaws.{head-IsName, has_head, head_name, no_head}
 use Rattle.merge_cursor.proofs.PassLaws.{IsParted, parted-head, parted-here, parted-passed, parted-looks}
 use Rattle.merge_cursor.proofs.pass.pass.Goals as goal
@@ -71,5 +71,5 @@ returns-clause-looks g c = λ p at are.
     let h = has_head (g.C.Cursor.points here) (g.C.Cursor.place here) c.in-Some-key.key.now (g.met.C.Cursor.encodable here) c.in-Some-key.ensures in
     let one : h.point ≡ p = (let same : Some h.point ≡ Some p = sym h.here ∙ sym head ∙ at in cc) in
     parted-looks g.C.Cursor.points g.C.Cursor.place g.C.Cursor.is_part c.args.parts.now split.result.0.now here c.in-Some.older.now c.args.current c.args.to
-    (name_in c.in-Some-key.key.now) p c.args.steps.now c.pass_key.new.steps c.move_part.new.steps by (head_name (g.C.Cursor.points here) (g.C.Cursor.place here) c.in-Some-key.key.now h ∙ ap (λ q. q.name) one) (sym head ∙ at)
+    (name_in c.in-Some-key.key.now) p c.args.looks.now c.pass_key.new.looks c.move_part.new.looks by (head_name (g.C.Cursor.points here) (g.C.Cursor.place here) c.in-Some-key.key.now h ∙ ap (λ q. q.name) one) (sym head ∙ at)
     c.pass_key.ensures.looks c.move_part.ensures.looks are

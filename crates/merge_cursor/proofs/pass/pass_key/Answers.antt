@@ -2,8 +2,8 @@ use Rattle.std.proofs.Common.{◌≡◌, ◌<◌, length, get_or, sym, subst, �
 use Rattle.std.specs.Prelude.{IsTrue}
 use Rattle.std.proofs.lemmas.List.{map-set, get_or-map, length-map}
 use Rattle.mvcc_key.specs.Encoded.{name_in}
-use Rattle.merge_cursor.specs.Moves.{passed, passing_looks}
-use Rattle.merge_cursor.specs.Standing.{Standing, standing, standings}
+use Rattle.merge_cursor.specs.views.Moves.{passed, passing_looks}
+use Rattle.merge_cursor.specs.views.Standing.{Standing, standing, standings}
 use Rattle.merge_cursor.proofs.MoveLaws.{changed_more, looks_more}
 use Rattle.merge_cursor.proofs.pass.pass_key.Goals as goal
 
@@ -27,6 +27,6 @@ loop-part-preserved g c =
     record {
       parts = map-set seen parts i new ∙ more.0;
       later = omega (arith, inv.later, e.later);
-      looks = λ parts_all. looks_more (passing_looks to name) start i (seen x) _ c.loop-part.steps c.pass_part.new.steps lt more.1 (inv.looks parts_all)
+      looks = λ parts_all. looks_more (passing_looks to name) start i (seen x) _ c.loop-part.looks c.pass_part.new.looks lt more.1 (inv.looks parts_all)
           (e.looks (let P : Standing → Type 0 = λ s. IsTrue s.is_part in subst P (sym more.1) (parts_all i (seen x) lt)));
     }

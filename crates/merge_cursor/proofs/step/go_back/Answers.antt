@@ -1,6 +1,6 @@
 use Rattle.std.proofs.Common.{length, sym, ◌∙◌, arith}
 use Rattle.std.proofs.lemmas.List.{length-map}
-use Rattle.merge_cursor.specs.Standing.{standing, standings}
+use Rattle.merge_cursor.specs.views.Standing.{standing, standings}
 use Rattle.merge_cursor.proofs.ShownLaws.{rising-standings}
 use Rattle.merge_cursor.proofs.StepLaws.{current_none, some_none, turns-back, stays-back, leaves-back, none_newer, turn-some, pass-some}
 use Rattle.merge_cursor.proofs.step.go_back.Goals as goal

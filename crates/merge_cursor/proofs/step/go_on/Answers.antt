@@ -1,6 +1,6 @@
 use Rattle.std.proofs.Common.{length, sym, ◌∙◌, arith}
 use Rattle.std.proofs.lemmas.List.{length-map}
-use Rattle.merge_cursor.specs.Standing.{standing, standings}
+use Rattle.merge_cursor.specs.views.Standing.{standing, standings}
 use Rattle.merge_cursor.proofs.ShownLaws.{rising-standings}
 use Rattle.merge_cursor.proofs.StepLaws.{current_none, some_none, turns-on, stays-on, leaves-on, none_newer, leaves-looks, stays-looks, turn-some, pass-some}
 use Rattle.merge_cursor.proofs.step.go_on.Goals as goal
@@ -30,7 +30,7 @@ pub returns-then-current-parts-clause-looks : goal.returns-then-current-parts-cl
 returns-then-current-parts-clause-looks g c = λ on are.
     let all = standings g.C.Cursor.points g.C.Cursor.place g.C.Cursor.is_part c.args.parts.now in
     let long = length-map c.args.parts.now (standing g.C.Cursor.points g.C.Cursor.place g.C.Cursor.is_part) in
-    stays-looks all c.args.current c.args.steps.now (current_none all c.args.current (length c.args.parts.now) (sym long) c.if-current-parts.true)
+    stays-looks all c.args.current c.args.looks.now (current_none all c.args.current (length c.args.parts.now) (sym long) c.if-current-parts.true)
 
 pub pass-requires-clause-newest : goal.pass-requires-clause-newest
 pass-requires-clause-newest g c = λ p at.
@@ -56,5 +56,5 @@ returns-clause-looks g c = λ on are.
     let long = length-map c.args.parts.now (standing g.C.Cursor.points g.C.Cursor.place g.C.Cursor.is_part) in
     let within = c.requires.within in
     let differs = c.if-current-parts.false in
-    leaves-looks c.args.ahead all c.args.current c.args.steps.now c.pass.new.steps c.if-not-ahead.false
+    leaves-looks c.args.ahead all c.args.current c.args.looks.now c.pass.new.looks c.if-not-ahead.false
     (rising-standings g.C.Cursor.points g.C.Cursor.place g.C.Cursor.is_part c.args.parts.now g.met.C.Cursor.rising) c.requires (c.requires.some (omega arith)) (λ p at. c.pass.ensures.looks p at are)

@@ -1,6 +1,6 @@
 use Rattle.std.proofs.Common.{◌≡◌, ◌-◌, ℕ, List, length, take, refl, sym, ap, subst, ◌∙◌, arith}
 use Rattle.mvcc_key.specs.Points.{Point}
-use Rattle.merge_cursor.specs.Seen.{points_in, place_of}
+use Rattle.merge_cursor.specs.views.Seen.{points_in, place_of}
 use Rattle.merge_cursor.specs.Visible.{visible}
 use Rattle.merge_cursor.proofs.VisibleLaws.{skipped}
 use Rattle.merge_cursor.proofs.visible.skip_back.Goals as goal

@@ -1,5 +1,5 @@
 use Rattle.std.proofs.Common.{◌≡◌, ◌≤◌, length, take}
-use Rattle.merge_cursor.specs.Seen.{lists_in, HasParts, points_in, place_of}
+use Rattle.merge_cursor.specs.views.Seen.{lists_in, HasParts, points_in, place_of}
 use Rattle.merge_cursor.specs.Visible.{visible}
 use Rattle.merge_cursor.proofs.visible.skip_back.Given as goal
 
@@ -11,7 +11,7 @@ invariant-loop-merged g l =
       same : points l.merged ≡ start;
       within : place l.merged ≤ length start;
       kept : length (visible (take (place l.merged) start)) ≡ length (visible (take (place l.initial.merged) start));
-      later : l.initial.steps ≤ l.steps;
+      later : l.initial.looks ≤ l.looks;
       lists : lists_in g.C.Cursor.points l.merged ≡ lists_in g.C.Cursor.points l.initial.merged;
       parts : HasParts g.C.Cursor.is_part l.initial.merged → HasParts g.C.Cursor.is_part l.merged;
     }

@@ -1,7 +1,7 @@
 use Rattle.std.proofs.Common.{◌≡◌, ◌≤◌, ◌+◌, ◌-◌, ℕ, List, length, take, refl, ap, subst, ◌∙◌, arith}
 use Rattle.mvcc_key.specs.Points.{Point, point_at}
 use Rattle.merge_cursor.specs.Merged.{entries_before}
-use Rattle.merge_cursor.specs.Seen.{points_in, place_of}
+use Rattle.merge_cursor.specs.views.Seen.{points_in, place_of}
 use Rattle.merge_cursor.specs.Visible.{visible}
 use Rattle.merge_cursor.proofs.VisibleLaws.{skipped}
 use Rattle.merge_cursor.proofs.visible.skip_on.Goals as goal
@@ -33,7 +33,7 @@ loop-merged-preserved g c =
       parts = λ are. e.parts (inv.parts are);
       ahead = λ on. e.ahead;
       looks = λ are on.
-          (let more = subst (λ (ls : List (List Point)). c.next.new.steps + entries_before (point_at (points m) (place m)) ls ≤ c.loop-merged.steps + entries_before (point_at (points n) (place n)) ls)
+          (let more = subst (λ (ls : List (List Point)). c.next.new.looks + entries_before (point_at (points m) (place m)) ls ≤ c.loop-merged.looks + entries_before (point_at (points n) (place n)) ls)
           inv.lists (e.looks (inv.parts are) (inv.ahead on)) in
           let so_far = inv.looks are on in
           omega arith);

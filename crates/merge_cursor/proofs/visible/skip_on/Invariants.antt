@@ -2,7 +2,7 @@ use Rattle.std.proofs.Common.{◌≡◌, ◌≤◌, ◌+◌, ◌-◌, length, ta
 use Rattle.std.specs.Prelude.{IsTrue}
 use Rattle.mvcc_key.specs.Points.{point_at}
 use Rattle.merge_cursor.specs.Merged.{entries_before}
-use Rattle.merge_cursor.specs.Seen.{lists_in, HasParts, is_ahead, points_in, place_of}
+use Rattle.merge_cursor.specs.views.Seen.{lists_in, HasParts, is_ahead, points_in, place_of}
 use Rattle.merge_cursor.specs.Visible.{visible}
 use Rattle.merge_cursor.proofs.visible.skip_on.Given as goal
 
@@ -14,13 +14,13 @@ invariant-loop-merged g l =
       same : points l.merged ≡ start;
       some : 1 ≤ place l.merged;
       kept : length (visible (take (place l.merged - 1) start)) ≡ length (visible (take (place l.initial.merged - 1) start));
-      later : l.initial.steps ≤ l.steps;
+      later : l.initial.looks ≤ l.looks;
       lists : lists_in g.C.Cursor.points l.merged ≡ lists_in g.C.Cursor.points l.initial.merged;
       parts : HasParts g.C.Cursor.is_part l.initial.merged → HasParts g.C.Cursor.is_part l.merged;
       ahead : IsTrue (is_ahead l.initial.merged) → IsTrue (is_ahead l.merged);
       looks : HasParts g.C.Cursor.is_part l.initial.merged → IsTrue (is_ahead l.initial.merged)
-          → l.steps + entries_before (point_at start (place l.initial.merged)) (lists_in g.C.Cursor.points l.initial.merged)
-          ≤ l.initial.steps + entries_before (point_at (points l.merged) (place l.merged)) (lists_in g.C.Cursor.points l.initial.merged);
+          → l.looks + entries_before (point_at start (place l.initial.merged)) (lists_in g.C.Cursor.points l.initial.merged)
+          ≤ l.initial.looks + entries_before (point_at (points l.merged) (place l.merged)) (lists_in g.C.Cursor.points l.initial.merged);
     }
 
 abbrev pub decreases-loop-merged : goal.decreases-loop-merged

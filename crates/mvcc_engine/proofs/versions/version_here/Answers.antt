@@ -1,6 +1,6 @@
 -- The pair at which the cursor stands is one of the key, or another's.
 use Rattle.std.proofs.Common.{sym, ◌∙◌}
-use Rattle.mvcc_key.specs.SeenKey.{seen_name}
+use Rattle.mvcc_key.specs.views.SeenKey.{seen_name}
 use Rattle.mvcc_engine.proofs.StoredLaws.{here, elsewhere, readable}
 use Rattle.mvcc_engine.proofs.versions.version_here.Goals as goal
 

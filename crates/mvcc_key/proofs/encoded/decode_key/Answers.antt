@@ -2,7 +2,7 @@ use Rattle.std.proofs.Common.{◌≡◌, ℕ, List, refl}
 use Rattle.std.specs.Prelude.{Result, Ok, Err, OnOk}
 use Rattle.mvcc_key.specs.KeyFormat.{name_of}
 use Rattle.mvcc_key.specs.Encoded.{IsBytes, IsName}
-use Rattle.mvcc_key.specs.SeenKey.{reading_of}
+use Rattle.mvcc_key.specs.views.SeenKey.{reading_of}
 use Rattle.mvcc_key.specs.declared.encoded.KeyRef.{KeyRef}
 use Rattle.mvcc_key.specs.declared.encoded.KeyFault.{KeyFault}
 use Rattle.mvcc_key.proofs.NamedLaws.{named-read}

@@ -1,7 +1,7 @@
 use Rattle.std.proofs.Common.{ℕ, List, ◌++◌, ap, ◌∙◌}
 use Rattle.mvcc_key.specs.Order.{Name}
 use Rattle.mvcc_key.specs.KeyFormat.{encoded_name, name_of}
-use Rattle.mvcc_key.specs.Seen.{time_of}
+use Rattle.mvcc_key.specs.views.Seen.{time_of}
 use Rattle.mvcc_key.proofs.ClockLaws.{range_from}
 use Rattle.mvcc_key.proofs.KeyFormatLaws.{name_of-encoded_name}
 use Rattle.mvcc_key.proofs.encoded.encode_key.Goals as goal

@@ -1,6 +1,6 @@
 use Rattle.std.proofs.Common.{ℕ, length, ap, ◌∙◌, arith}
 use Rattle.mvcc_key.specs.Encoded.{name_in}
-use Rattle.mvcc_key.specs.Heads.{head_of}
+use Rattle.mvcc_key.specs.views.Heads.{head_of}
 use Rattle.mvcc_key.proofs.HeadLaws.{head-long, head-front, key-in-front}
 use Rattle.mvcc_key.proofs.heads.head_in.Goals as goal
 

@@ -2,7 +2,7 @@ use Rattle.std.proofs.Common.{◌≡◌, ℕ, ◌+◌, ◌-◌, ◌/◌, ◌<◌
 use Rattle.std.specs.Prelude.{Option, Some, IfSome, slice_get}
 use Rattle.std.proofs.lemmas.Option.{slice_get_cases}
 use Rattle.mvcc_key.specs.Encoded.{name_in}
-use Rattle.mvcc_key.specs.Looks.{bits}
+use Rattle.mvcc_key.specs.views.Looks.{bits}
 use Rattle.mvcc_key.specs.Points.{Point, is_below_name}
 use Rattle.mvcc_key.specs.Order.{Name}
 use Rattle.mvcc_key.proofs.LookLaws.{bits-half}

@@ -1,7 +1,7 @@
 use Rattle.std.proofs.Common.{sym, ap, ◌∙◌}
 use Rattle.std.proofs.lemmas.Result.{err_from_is_err_and}
 use Rattle.mvcc_key.specs.Order.{no_time}
-use Rattle.mvcc_key.specs.Seen.{time_of}
+use Rattle.mvcc_key.specs.views.Seen.{time_of}
 use Rattle.mvcc_value.specs.Encoding.{with_local}
 use Rattle.mvcc_value.proofs.DecodingLaws.{value_of-headed, value_of-plain}
 use Rattle.mvcc_value.proofs.decoding.decode.Goals as goal

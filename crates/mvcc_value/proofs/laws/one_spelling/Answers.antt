@@ -1,5 +1,5 @@
 use Rattle.std.proofs.Common.{arith}
-use Rattle.mvcc_key.specs.Seen.{time_of}
+use Rattle.mvcc_key.specs.views.Seen.{time_of}
 use Rattle.mvcc_value.proofs.ValueLaws.{value_of-value_bytes, IsValueOf-value_of}
 use Rattle.mvcc_value.proofs.laws.one_spelling.Goals as goal
 

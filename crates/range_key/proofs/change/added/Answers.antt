@@ -1,7 +1,7 @@
 use Rattle.std.proofs.Common.{◌∙◌}
 use Rattle.mvcc_key.specs.Fragments.{cut_to}
 use Rattle.mvcc_key.specs.Pieces.{cut_below, cut_from, laid_over}
-use Rattle.mvcc_key.specs.Seen.{time_of}
+use Rattle.mvcc_key.specs.views.Seen.{time_of}
 use Rattle.range_key.proofs.JoiningLaws.{three-parts}
 use Rattle.range_key.proofs.change.added.Goals as goal
 

@@ -1,8 +1,8 @@
 use Rattle.std.proofs.Common.{◌≡◌, drop}
 use Rattle.mvcc_key.specs.Fragments.{cut_to}
 use Rattle.mvcc_key.specs.Pieces.{laid_over}
-use Rattle.mvcc_key.specs.Seen.{time_of}
-use Rattle.range_key.specs.Joining.{joined_on}
+use Rattle.mvcc_key.specs.views.Seen.{time_of}
+use Rattle.range_key.specs.views.Joining.{joined_on}
 use Rattle.range_key.proofs.change.lay_over.Given as goal
 
 abbrev pub invariant-loop-fragment : goal.invariant-loop-fragment

@@ -1,8 +1,8 @@
 use Rattle.std.proofs.Common.{◌≡◌, drop}
 use Rattle.mvcc_key.specs.Fragments.{cut_to}
 use Rattle.mvcc_key.specs.Pieces.{thinned}
-use Rattle.range_key.specs.Joining.{joined_on}
-use Rattle.range_key.specs.Taken.{is_taken}
+use Rattle.range_key.specs.views.Joining.{joined_on}
+use Rattle.range_key.specs.views.Taken.{is_taken}
 use Rattle.range_key.proofs.change.thin.Given as goal
 
 abbrev pub invariant-loop-fragment : goal.invariant-loop-fragment

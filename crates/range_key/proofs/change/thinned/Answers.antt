@@ -1,7 +1,7 @@
 use Rattle.std.proofs.Common.{◌∙◌}
 use Rattle.mvcc_key.specs.Fragments.{cut_to}
 use Rattle.mvcc_key.specs.Pieces.{cut_below, cut_from, thinned}
-use Rattle.range_key.specs.Taken.{is_taken}
+use Rattle.range_key.specs.views.Taken.{is_taken}
 use Rattle.range_key.proofs.JoiningLaws.{three-parts}
 use Rattle.range_key.proofs.change.thinned.Goals as goal
 

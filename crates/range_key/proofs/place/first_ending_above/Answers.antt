@@ -1,6 +1,6 @@
 use Rattle.std.proofs.Common.{refl, ◌∙◌, sym, ◌+◌, ◌-◌, ◌/◌, ◌≤◌, length, arith}
 use Rattle.std.proofs.lemmas.Option.{slice_get_read}
-use Rattle.mvcc_key.specs.Looks.{bits}
+use Rattle.mvcc_key.specs.views.Looks.{bits}
 use Rattle.mvcc_key.proofs.LookLaws.{bits-half}
 use Rattle.mvcc_key.proofs.PieceLaws.{canonical-pieces}
 use Rattle.range_key.proofs.PlaceLaws.{ends_by-take, ends_above-drop}

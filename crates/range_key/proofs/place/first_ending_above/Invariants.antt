@@ -1,7 +1,7 @@
 use Rattle.std.proofs.Common.{◌-◌, ◌+◌, ◌≤◌, length, take, drop}
-use Rattle.mvcc_key.specs.Looks.{bits}
+use Rattle.mvcc_key.specs.views.Looks.{bits}
 use Rattle.mvcc_key.specs.Pieces.{EndBy}
-use Rattle.range_key.specs.Places.{EndsAbove}
+use Rattle.range_key.specs.views.Places.{EndsAbove}
 use Rattle.range_key.proofs.place.first_ending_above.Given as goal
 
 abbrev pub invariant-loop-low : goal.invariant-loop-low
@@ -10,8 +10,8 @@ invariant-loop-low g l = record {
   within : l.high ≤ length l.fragments;
   before : EndBy l.key (take l.low l.fragments);
   from : EndsAbove l.key (drop l.high l.fragments);
-  later : l.initial.steps ≤ l.steps;
-  cost : l.steps + bits (l.high - l.low) ≤ l.initial.steps + bits (length l.fragments);
+  later : l.initial.looks ≤ l.looks;
+  cost : l.looks + bits (l.high - l.low) ≤ l.initial.looks + bits (length l.fragments);
 }
 
 abbrev pub decreases-loop-low : goal.decreases-loop-low

@@ -1,7 +1,7 @@
 use Rattle.std.proofs.Common.{rules, ◌≡◌}
 use Rattle.std.proofs.lemmas.Fn.{always_returns_same}
 use Rattle.mvcc_key.specs.Order.{time_cmp}
-use Rattle.mvcc_key.specs.Seen.{time_of}
+use Rattle.mvcc_key.specs.views.Seen.{time_of}
 use Rattle.range_key.proofs.stack.place_of.Goals as goal
 
 pub returns-clause-place : goal.returns-clause-place

@@ -1,5 +1,5 @@
 use Rattle.std.proofs.Common.{ap, ◌∙◌}
-use Rattle.run_block.specs.Places.{points_in}
+use Rattle.run_block.specs.views.Places.{points_in}
 use Rattle.run_block.proofs.AddingLaws.{index-next, points-next, ranges-added}
 use Rattle.run_block.proofs.adding.add_range.Goals as goal
 

@@ -1,11 +1,11 @@
 use Rattle.std.proofs.Common.{◌<◌, ◌^◌, ℕ, List, ◌++◌, length, sym, ap, subst, ◌∙◌, arith}
 use Rattle.std.specs.List.{flat_map}
 use Rattle.mvcc_key.specs.Points.{Point}
-use Rattle.mvcc_key.specs.SeenPoint.{points_of}
+use Rattle.mvcc_key.specs.views.SeenPoint.{points_of}
 use Rattle.run_block.specs.RunFormat.{Run, point_bytes, range_bytes}
 use Rattle.run_block.specs.Runs.{IsRun, IsRunOf}
-use Rattle.run_block.specs.SeenRange.{ranges_of}
-use Rattle.run_block.specs.Writing.{head_bytes}
+use Rattle.run_block.specs.views.SeenRange.{ranges_of}
+use Rattle.run_block.specs.views.Writing.{head_bytes}
 use Rattle.run_block.proofs.BuildLaws.{run_of_entries, run_bytes-parts}
 use Rattle.run_block.proofs.FormLaws.{bytes_are_read}
 use Rattle.run_block.proofs.building.build.Goals as goal

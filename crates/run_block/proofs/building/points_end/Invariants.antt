@@ -1,6 +1,6 @@
 use Rattle.std.proofs.Common.{◌≡◌, ◌+◌, length, take}
 use Rattle.std.specs.List.{flat_map}
-use Rattle.mvcc_key.specs.SeenPoint.{points_of}
+use Rattle.mvcc_key.specs.views.SeenPoint.{points_of}
 use Rattle.run_block.specs.RunFormat.{point_bytes}
 use Rattle.run_block.proofs.building.points_end.Given as goal
 

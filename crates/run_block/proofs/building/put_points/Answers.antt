@@ -1,5 +1,5 @@
 use Rattle.std.proofs.Common.{◌<◌, ◌^◌, ℕ, List, length, sym, subst}
-use Rattle.mvcc_key.specs.SeenPoint.{points_of}
+use Rattle.mvcc_key.specs.views.SeenPoint.{points_of}
 use Rattle.mem_table.specs.Entries.{IsStorable}
 use Rattle.run_block.proofs.AddingLaws.{short_key, points-taken, IsAdding-more}
 use Rattle.run_block.proofs.building.put_points.Goals as goal

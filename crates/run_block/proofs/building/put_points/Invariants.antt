@@ -1,4 +1,4 @@
-use Rattle.mvcc_key.specs.SeenPoint.{points_of}
+use Rattle.mvcc_key.specs.views.SeenPoint.{points_of}
 use Rattle.run_block.proofs.AddingLaws.{IsAdding}
 use Rattle.run_block.proofs.building.put_points.Given as goal
 

@@ -1,4 +1,4 @@
-use Rattle.run_block.specs.SeenRange.{range_of, ranges_of}
+use Rattle.run_block.specs.views.SeenRange.{range_of, ranges_of}
 use Rattle.run_block.proofs.AddingLaws.{taken-more, IsAddingRanges-more}
 use Rattle.run_block.proofs.building.put_ranges.Goals as goal
 

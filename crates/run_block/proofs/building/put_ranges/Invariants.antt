@@ -1,4 +1,4 @@
-use Rattle.run_block.specs.SeenRange.{ranges_of}
+use Rattle.run_block.specs.views.SeenRange.{ranges_of}
 use Rattle.run_block.proofs.AddingLaws.{IsAddingRanges}
 use Rattle.run_block.proofs.building.put_ranges.Given as goal
 

@@ -1,7 +1,7 @@
 use Rattle.std.proofs.Common.{◌≡◌, ◌+◌, length, take}
 use Rattle.std.specs.List.{flat_map}
 use Rattle.run_block.specs.RunFormat.{range_bytes}
-use Rattle.run_block.specs.SeenRange.{ranges_of}
+use Rattle.run_block.specs.views.SeenRange.{ranges_of}
 use Rattle.run_block.proofs.building.ranges_end.Given as goal
 
 abbrev pub invariant-loop-op : goal.invariant-loop-op

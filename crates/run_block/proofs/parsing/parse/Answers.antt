@@ -1,7 +1,7 @@
 use Rattle.std.proofs.Common.{ℕ, List, arith, sym, ap, subst, ◌∙◌}
 use Rattle.run_block.specs.RunFormat.{run_bytes}
 use Rattle.run_block.specs.Runs.{IsRunOf}
-use Rattle.run_block.specs.Places.{run_in}
+use Rattle.run_block.specs.views.Places.{run_in}
 use Rattle.run_block.proofs.FormLaws.{read_bytes_are_of_run}
 use Rattle.run_block.proofs.parsing.parse.Goals as goal
 

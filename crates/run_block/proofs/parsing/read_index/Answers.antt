@@ -2,8 +2,8 @@ use Rattle.std.proofs.Common.{◌≡◌, sym, ap, ◌∙◌}
 use Rattle.std.specs.Prelude.{Ok, Err}
 use Rattle.std.proofs.lemmas.Result.{err_from_is_err_and}
 use Rattle.run_block.specs.RunFormat.{RunFault}
-use Rattle.run_block.specs.Places.{points_in, ranges_in}
-use Rattle.run_block.specs.Reading.{rest_of}
+use Rattle.run_block.specs.views.Places.{points_in, ranges_in}
+use Rattle.run_block.specs.views.Reading.{rest_of}
 use Rattle.run_block.proofs.WholeLaws.{rest_of-first, IsFaultOf-whole, fault_of_head, IsHead, IsHead-read, fault_of_points, fault_of_ranges, fault_of_end, run_of-whole}
 use Rattle.run_block.proofs.parsing.read_index.Goals as goal
 

@@ -1,8 +1,8 @@
 use Rattle.std.proofs.Common.{List, ℕ, sym, subst, ◌∙◌}
 use Rattle.std.specs.Option.{ForSome}
 use Rattle.std.proofs.lemmas.Result.{err_from_is_err_and}
-use Rattle.run_block.specs.Places.{IsIndex}
-use Rattle.run_block.specs.Reading.{IsKeyPiece}
+use Rattle.run_block.specs.views.Places.{IsIndex}
+use Rattle.run_block.specs.views.Reading.{IsKeyPiece}
 use Rattle.run_block.proofs.ReadingLaws.{IsReadingPoints-first, IsReadingPoints-more, IsReadingPoints-fault, IsReadingPoints-last}
 use Rattle.run_block.proofs.parsing.read_points.Goals as goal
 

@@ -3,7 +3,7 @@ use Rattle.std.specs.Prelude.{IsSome, IsTrue, ◌↔◌, IfSome}
 use Rattle.std.specs.Int.{w32, w64, from_be_bytes}
 use Rattle.std.proofs.lemmas.List.{take_rest}
 use Rattle.mvcc_key.specs.Order.{Timestamp, is_in_range}
-use Rattle.mvcc_key.specs.Seen.{time_of}
+use Rattle.mvcc_key.specs.views.Seen.{time_of}
 use Rattle.run_block.specs.TimeSpan.{record_bytes}
 use Rattle.run_block.proofs.TimeLaws.{made_time, record_time-long}
 use Rattle.run_block.proofs.time.time_of_record.Goals as goal

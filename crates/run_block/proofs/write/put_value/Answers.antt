@@ -2,7 +2,7 @@ use Rattle.std.proofs.Common.{ℕ, List, sym, ap, ◌∙◌}
 use Rattle.std.specs.Prelude.{Some}
 use Rattle.std.specs.Option.{option_map}
 use Rattle.std.proofs.lemmas.List.{append-nil}
-use Rattle.run_block.specs.Places.{piece_in}
+use Rattle.run_block.specs.views.Places.{piece_in}
 use Rattle.run_block.proofs.write.put_value.Goals as goal
 
 pub returns-in_ok-piece-in-Some-clause-value : goal.returns-in_ok-piece-in-Some-clause-value

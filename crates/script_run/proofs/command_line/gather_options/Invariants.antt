@@ -3,7 +3,7 @@ use Rattle.std.proofs.Common.{◌≡◌, map, drop, codes}
 use Rattle.std.specs.Prelude.{string_bytes}
 use Rattle.std.specs.Option.{option_map}
 use Rattle.script_run.specs.CommandLine.{gather_all, nothing_gathered}
-use Rattle.script_run.specs.SeenLine.{word_of}
+use Rattle.script_run.specs.views.SeenLine.{word_of}
 use Rattle.script_run.proofs.command_line.gather_options.Given as goal
 
 abbrev pub invariant-loop-word : goal.invariant-loop-word

@@ -1,6 +1,6 @@
 -- The options are those that are found.
 use Rattle.std.proofs.Common.{map, sym, ◌∙◌}
-use Rattle.script_run.specs.SeenLine.{word_of}
+use Rattle.script_run.specs.views.SeenLine.{word_of}
 use Rattle.script_run.proofs.OptionLaws.{options_of-others, options_of-read}
 use Rattle.script_run.proofs.command_line.options_of.Goals as goal
 

@@ -1,6 +1,6 @@
 -- The statistics so far are printed.
 use Rattle.std.proofs.Common.{◌≡◌, ◌++◌, take, map, flat_map}
-use Rattle.stat_core.specs.Seen.{field_of}
+use Rattle.stat_core.specs.views.Seen.{field_of}
 use Rattle.script_run.specs.Statistics.{field_text}
 use Rattle.script_run.proofs.statistics.append_fields.Given as goal
 

@@ -2,7 +2,7 @@
 use Rattle.std.proofs.Common.{◌≡◌, get_or, sym, ap, ◌∙◌, Some}
 use Rattle.std.specs.Option.{option_map}
 use Rattle.script_run.specs.Forms.{pass}
-use Rattle.script_run.specs.SeenLine.{place_of, passed_of}
+use Rattle.script_run.specs.views.SeenLine.{place_of, passed_of}
 use Rattle.script_run.proofs.EscapeLaws.{begun, one_ended, none_ended, one_wrong}
 use Rattle.script_run.proofs.unescape.unescape.Goals as goal
 use Rattle.script_run.proofs.unescape.unescape.Goals.{in-Some-ended+in_ok-push, in_default-ended}

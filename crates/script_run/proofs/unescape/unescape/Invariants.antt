@@ -1,5 +1,5 @@
 -- What is read and what is left are the text.
-use Rattle.script_run.specs.SeenLine.{place_of}
+use Rattle.script_run.specs.views.SeenLine.{place_of}
 use Rattle.script_run.proofs.EscapeLaws.{Reads}
 use Rattle.script_run.proofs.unescape.unescape.Given as goal
 

@@ -2,7 +2,7 @@
 use Rattle.std.proofs.Common.{◌≡◌, map, drop}
 use Rattle.std.specs.List.{list_all}
 use Rattle.script_run.specs.Words.{is_allowed}
-use Rattle.script_run.specs.SeenLine.{word_of}
+use Rattle.script_run.specs.views.SeenLine.{word_of}
 use Rattle.script_run.proofs.words.are_allowed.Given as goal
 
 abbrev pub invariant-loop-word : goal.invariant-loop-word

@@ -1,7 +1,7 @@
 -- The words so far stand once.
 use Rattle.std.proofs.Common.{◌≡◌, map, drop}
 use Rattle.script_run.specs.Words.{are_distinct}
-use Rattle.script_run.specs.SeenLine.{word_of}
+use Rattle.script_run.specs.views.SeenLine.{word_of}
 use Rattle.script_run.proofs.words.are_distinct.Given as goal
 
 abbrev pub invariant-loop-i : goal.invariant-loop-i

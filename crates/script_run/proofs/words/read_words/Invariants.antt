@@ -2,7 +2,7 @@
 use Rattle.std.proofs.Common.{◌≡◌, ◌++◌, map, length}
 use Rattle.script_run.specs.Words as spec
 use Rattle.script_run.specs.Words.{words}
-use Rattle.script_run.specs.SeenLine.{word_of}
+use Rattle.script_run.specs.views.SeenLine.{word_of}
 use Rattle.script_run.proofs.words.read_words.Given as goal
 
 abbrev pub invariant-loop-word : goal.invariant-loop-word

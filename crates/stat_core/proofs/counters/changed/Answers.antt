@@ -1,8 +1,8 @@
 use Rattle.std.proofs.Common.{◌≡◌, ℕ, ℤ, pos, ◌+ℤ◌, ◌≤ℤ◌, ◌<ℤ◌, ◌<◌, List, arith, rules, sym, ap, ◌∙◌, subst, slice_index, slice_index_or, FitsSigned, length, length-set, to_z, of_z}
 use Rattle.std.specs.Int.{w128}
 use Rattle.std.proofs.lemmas.Int.{ints, to_z-of_z}
-use Rattle.stat_core.specs.Counters.{IsWithin, moved_by}
-use Rattle.stat_core.specs.Seen.{field_of}
+use Rattle.stat_core.specs.views.Counters.{IsWithin, moved_by}
+use Rattle.stat_core.specs.views.Seen.{field_of}
 use Rattle.stat_core.specs.declared.counters.Sign.{Sign}
 use Rattle.stat_core.proofs.CounterLaws.{at_place, changed_at, changed_at-no_debt, first_above, all_counted, place-more, low-more}
 use Rattle.stat_core.proofs.counters.changed.Goals as goal

@@ -2,7 +2,7 @@ use Rattle.std.specs.Prelude.{◌≡◌, Option, Some, None}
 use Rattle.std.specs.Option.{option_map}
 use Rattle.std.proofs.Common.{refl}
 use Rattle.mvcc_key.specs.Order.{Timestamp}
-use Rattle.mvcc_key.specs.Seen.{time_of}
+use Rattle.mvcc_key.specs.views.Seen.{time_of}
 use Rattle.stat_core.specs.DeadSince.{earlier, dead_since}
 use Rattle.stat_core.proofs.tally.dead_since.Goals as goal
 

@@ -1,5 +1,5 @@
 use Rattle.stat_core.specs.ComputeStats.{field, key_sums}
-use Rattle.stat_core.specs.Seen.{number, lent_shape_of}
+use Rattle.stat_core.specs.views.Seen.{number, lent_shape_of}
 use Rattle.stat_core.proofs.GroupLaws.{difference-fits}
 use Rattle.stat_core.proofs.tests.change.Goals as goal
 

@@ -3,7 +3,7 @@ use Rattle.std.proofs.Common.{refl, sym, ◌∙◌, ap, subst, arith}
 use Rattle.std.proofs.lemmas.Int.{ints}
 use Rattle.stat_core.specs.ComputeStats.{field}
 use Rattle.stat_core.specs.Running.{Running}
-use Rattle.stat_core.specs.Seen.{number}
+use Rattle.stat_core.specs.views.Seen.{number}
 use Rattle.stat_core.specs.Settling.{NoDebt, raised_number, lowered_number, whole, raised}
 use Rattle.stat_core.specs.declared.group.Group.{Group}
 use Rattle.stat_core.proofs.CounterLaws.{field-whole_sums}

@@ -1,4 +1,4 @@
-use Rattle.txn_state.specs.Seen.{ranges_of}
+use Rattle.txn_state.specs.views.Seen.{ranges_of}
 use Rattle.txn_state.proofs.RangeLaws.{rise_from-zero}
 use Rattle.txn_state.proofs.ranges.are_rising.Goals as goal
 

@@ -1,5 +1,5 @@
 use Rattle.std.proofs.Common.{◌≡◌, drop}
-use Rattle.txn_state.specs.Seen.{ranges_of}
+use Rattle.txn_state.specs.views.Seen.{ranges_of}
 use Rattle.txn_state.specs.Transaction.{are_ranges}
 use Rattle.txn_state.proofs.RangeLaws.{rise_from}
 use Rattle.txn_state.proofs.ranges.are_rising.Given as goal

@@ -1,5 +1,5 @@
 use Rattle.std.proofs.Common.{ℕ, eqb, ap, ◌∙◌, arith}
-use Rattle.intent_meta.specs.Seen.{record_in}
+use Rattle.intent_meta.specs.views.Seen.{record_in}
 use Rattle.intent_meta.proofs.FieldLaws.{HasFields-record_in, flag_byte-one}
 use Rattle.intent_meta.proofs.intent_ref.IntentRef.deleted.Goals as goal
 

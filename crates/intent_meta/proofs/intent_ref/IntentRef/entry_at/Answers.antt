@@ -1,7 +1,7 @@
 use Rattle.std.proofs.Common.{◌≡◌, true, false, leb, sym, ap, ◌∙◌}
 use Rattle.std.specs.Prelude.{◌&&◌, not}
 use Rattle.std.specs.Option.{option_map}
-use Rattle.intent_meta.specs.Seen.{record_in, is_ignored_by}
+use Rattle.intent_meta.specs.views.Seen.{record_in, is_ignored_by}
 use Rattle.intent_meta.proofs.WalkLaws.{entry_at-last, entry_at-not_last}
 use Rattle.intent_meta.proofs.intent_ref.IntentRef.entry_at.Goals as goal
 

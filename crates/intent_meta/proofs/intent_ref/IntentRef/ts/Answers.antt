@@ -1,7 +1,7 @@
 use Rattle.std.proofs.Common.{◌≡◌, ap, ◌∙◌, arith}
 use Rattle.mvcc_key.specs.Order.{is_in_range}
-use Rattle.mvcc_key.specs.Seen.{time_of}
-use Rattle.intent_meta.specs.Seen.{record_in}
+use Rattle.mvcc_key.specs.views.Seen.{time_of}
+use Rattle.intent_meta.specs.views.Seen.{record_in}
 use Rattle.intent_meta.proofs.FieldLaws.{IsRecordOf-record_in, HasFields-record_in, time-read}
 use Rattle.intent_meta.proofs.intent_ref.IntentRef.ts.Goals as goal
 

@@ -1,10 +1,10 @@
 use Rattle.std.proofs.Common.{◌≡◌, ℕ, List, [], ◌∷◌, ◌++◌, None, cond, sym, ap, ◌∙◌}
 use Rattle.std.specs.Prelude.{map}
 use Rattle.mvcc_key.specs.History.{Entry, without_ignored}
-use Rattle.mvcc_key.specs.Seen.{range_of}
+use Rattle.mvcc_key.specs.views.Seen.{range_of}
 use Rattle.intent_meta.specs.Entries.{entries_with, some_entries}
 use Rattle.intent_meta.specs.Rules.{AreRecordEntries}
-use Rattle.intent_meta.specs.Seen.{record_in, is_ignored_by}
+use Rattle.intent_meta.specs.views.Seen.{record_in, is_ignored_by}
 use Rattle.intent_meta.proofs.FieldLaws.{IsRecordOf-record_in}
 use Rattle.intent_meta.proofs.EntryRuleLaws.{IfSome-some_entries, AreRecordEntries-left}
 use Rattle.intent_meta.proofs.WalkLaws.{kept-provisional}

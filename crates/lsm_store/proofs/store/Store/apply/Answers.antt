@@ -3,13 +3,13 @@ use Rattle.std.specs.Prelude.{filter}
 use Rattle.std.proofs.lemmas.Result.{on_ok_weaker}
 use Rattle.run_block.specs.declared.run.Run.{Run}
 use Rattle.mvcc_key.specs.Points.{Point}
-use Rattle.mvcc_key.specs.SeenPoint.{point_of, points_of}
+use Rattle.mvcc_key.specs.views.SeenPoint.{point_of, points_of}
 use Rattle.mvcc_key.specs.declared.batch.PointOp.{PointOp}
 use Rattle.mvcc_key.proofs.PointLaws.{sorted-rising}
 use Rattle.mem_table.specs.Entries.{AreEntries}
 use Rattle.mem_table.specs.Table.{Table}
 use Rattle.lsm_store.specs.Shown.{shown}
-use Rattle.lsm_store.specs.Changing.{changes_points}
+use Rattle.lsm_store.specs.views.Changing.{changes_points}
 use Rattle.lsm_store.proofs.FilterLaws.{points-filter, entries-filter}
 use Rattle.lsm_store.proofs.ApplyLaws.{shown-after}
 use Rattle.lsm_store.proofs.ChangeLaws.{parts-after}

@@ -2,10 +2,10 @@ use Rattle.std.proofs.Common.{◌≡◌, ◌∙◌, Bool, List, ◌∷◌, map, 
 use Rattle.std.proofs.lemmas.Result.{on_ok_weaker}
 use Rattle.run_block.specs.declared.run.Run.{Run}
 use Rattle.mvcc_key.specs.Points.{Point}
-use Rattle.mvcc_key.specs.SeenPoint.{point_of}
+use Rattle.mvcc_key.specs.views.SeenPoint.{point_of}
 use Rattle.mem_table.specs.Table.{Table}
 use Rattle.lsm_store.specs.Shown.{shown}
-use Rattle.lsm_store.specs.Changing.{changes_points}
+use Rattle.lsm_store.specs.views.Changing.{changes_points}
 use Rattle.lsm_store.proofs.OneLaws.{shown-taken, parts-taken, shown-left, parts-left}
 use Rattle.lsm_store.proofs.store.Store.apply_one.Goals as goal
 

@@ -1,5 +1,5 @@
 use Rattle.std.proofs.Common.{◌≡◌, ◌++◌, map, take, All}
-use Rattle.lsm_store.specs.Cursors.{points_at, place_at}
+use Rattle.lsm_store.specs.views.Cursors.{points_at, place_at}
 use Rattle.lsm_store.proofs.store.Store.cursors.Given as goal
 
 abbrev pub invariant-loop-run : goal.invariant-loop-run

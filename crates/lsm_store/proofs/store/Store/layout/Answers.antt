@@ -5,7 +5,7 @@ use Rattle.run_block.specs.RunFormat.{Run}
 use Rattle.lsm_store.specs.Parts as parts
 use Rattle.lsm_store.specs.Parts.{part_shape, layout}
 use Rattle.lsm_store.specs.Shown.{part_of, parts_of}
-use Rattle.lsm_store.specs.Seen.{seen_shape}
+use Rattle.lsm_store.specs.views.Seen.{seen_shape}
 use Rattle.lsm_store.specs.declared.shape.PartShape.{PartShape}
 use Rattle.lsm_store.proofs.store.Store.layout.Goals as goal
 

@@ -1,7 +1,7 @@
 use Rattle.std.proofs.Common.{◌≡◌, ◌++◌, map, take}
 use Rattle.lsm_store.specs.Parts.{part_shape}
 use Rattle.lsm_store.specs.Shown.{part_of}
-use Rattle.lsm_store.specs.Seen.{seen_shape}
+use Rattle.lsm_store.specs.views.Seen.{seen_shape}
 use Rattle.lsm_store.proofs.store.Store.layout.Given as goal
 
 abbrev pub invariant-loop-run : goal.invariant-loop-run

@@ -1,8 +1,8 @@
 use Rattle.std.specs.Prelude.{List}
 use Rattle.mvcc_key.specs.declared.batch.PointOp.{PointOp}
 use Rattle.mem_table.specs.Entries.{AreEntries}
-use Rattle.mem_table.specs.Places.{listed}
-use Rattle.mem_table.specs.Seen.{ops_held}
+use Rattle.mem_table.specs.views.Places.{listed}
+use Rattle.mem_table.specs.views.Seen.{ops_held}
 use Rattle.mem_table.proofs.EntryLaws.{entries-either, entries-newest, encodable-entries}
 use Rattle.mem_table.proofs.sorted.SortedOps.apply.Goals as goal
 

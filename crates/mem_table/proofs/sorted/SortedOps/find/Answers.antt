@@ -1,8 +1,8 @@
 use Rattle.std.proofs.Common.{List, subst, ap₂}
 use Rattle.mvcc_key.specs.Encoded.{name_in}
 use Rattle.mvcc_key.specs.declared.batch.PointOp.{PointOp}
-use Rattle.mem_table.specs.Places.{listed, IsRangeOf}
-use Rattle.mem_table.specs.Seen.{ops_held}
+use Rattle.mem_table.specs.views.Places.{listed, IsRangeOf}
+use Rattle.mem_table.specs.views.Seen.{ops_held}
 use Rattle.mem_table.proofs.PlaceLaws.{range-seen}
 use Rattle.mem_table.proofs.sorted.SortedOps.find.Goals as goal
 

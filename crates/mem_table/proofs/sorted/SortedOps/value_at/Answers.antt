@@ -1,4 +1,4 @@
-use Rattle.mem_table.specs.Seen.{points_held}
+use Rattle.mem_table.specs.views.Seen.{points_held}
 use Rattle.std.specs.Option.{option_map}
 use Rattle.mem_table.proofs.PlaceLaws.{shown-at, shown-none}
 use Rattle.mem_table.proofs.sorted.SortedOps.value_at.Goals as goal

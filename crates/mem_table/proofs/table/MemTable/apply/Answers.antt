@@ -1,5 +1,5 @@
 use Rattle.std.proofs.lemmas.Result.{on_ok_weaker}
-use Rattle.mem_table.specs.Seen.{ops_held}
+use Rattle.mem_table.specs.views.Seen.{ops_held}
 use Rattle.mem_table.proofs.TableLaws.{table-after, newest-after}
 use Rattle.mem_table.proofs.table.MemTable.apply.Goals as goal
 

@@ -1,7 +1,7 @@
 use Rattle.std.proofs.Common.{subst, ap}
 use Rattle.std.specs.Prelude.{All}
 use Rattle.mem_table.specs.Entries.{IsStoredPoint}
-use Rattle.mem_table.specs.Seen.{ops_held}
+use Rattle.mem_table.specs.views.Seen.{ops_held}
 use Rattle.mem_table.specs.Table.{Table}
 use Rattle.mem_table.proofs.EntryLaws.{stored-entries}
 use Rattle.mem_table.proofs.table.MemTable.cursor.Goals as goal

@@ -1,6 +1,6 @@
 use Rattle.std.proofs.Common.{[], ◌∷◌, refl}
 use Rattle.std.proofs.lemmas.Result.{on_ok_weaker}
-use Rattle.mem_table.specs.Seen.{ops_held}
+use Rattle.mem_table.specs.views.Seen.{ops_held}
 use Rattle.mem_table.specs.Table.{batch_of_one}
 use Rattle.mem_table.proofs.TableLaws.{table-after, newest-after}
 use Rattle.mem_table.proofs.table.MemTable.put_at.Goals as goal

@@ -1,8 +1,8 @@
 use Rattle.std.proofs.Common.{◌≡◌, ◌≤◌, ◌+◌, ◌++◌, true, List, length, take, drop, sum_by, sym, ap, subst, ◌∙◌, arith}
 use Rattle.std.specs.Prelude.{All, IsSome, IsTrue}
 use Rattle.merge_cursor.specs.Merged.{merged}
-use Rattle.merge_cursor.specs.Standing.{standings, lists_of, heads, head_of, positioned, cut_of, count_in}
-use Rattle.merge_cursor.specs.Moves.{cut_past}
+use Rattle.merge_cursor.specs.views.Standing.{standings, lists_of, heads, head_of, positioned, cut_of, count_in}
+use Rattle.merge_cursor.specs.views.Moves.{cut_past}
 use Rattle.merge_cursor.proofs.CutLaws.{cut_past-IsCut}
 use Rattle.merge_cursor.proofs.ShownLaws.{rising-standings, place-on}
 use Rattle.merge_cursor.proofs.StepLaws.{After, current_some}
@@ -105,9 +105,9 @@ returns-clause-looks g c = λ are on.
     let done : After true (cut_past old.ahead (head_of (heads (all old.parts.items)) old.current)) (all old.parts.items) (all now) c.leading-self.result =
     after-move g.C.Cursor.points g.C.Cursor.place g.C.Cursor.is_part true (λ ss. cut_past old.ahead (head_of (heads ss) old.current)) old.parts.items c.deref_mut.result.now new now c.deref.result.now c.leading-self.result
     g.met.C.Cursor.rising (cut_past-IsCut old.ahead (head_of (heads (all old.parts.items)) old.current)) old.encodable c.deref_mut.ensures.value same c.deref.ensures.value (c.go_on.ensures.parts) c.leading-self.ensures in
-    let looks = subst (λ (xs : List _). c.go_on.new.steps + sum_by (count_in (cut_of true (head_of (heads (all xs)) old.current))) (lists_of (all xs))
-    ≤ c.args.steps.now + sum_by (count_in (cut_past true (head_of (heads (all xs)) old.current))) (lists_of (all xs)))
+    let looks = subst (λ (xs : List _). c.go_on.new.looks + sum_by (count_in (cut_of true (head_of (heads (all xs)) old.current))) (lists_of (all xs))
+    ≤ c.args.looks.now + sum_by (count_in (cut_past true (head_of (heads (all xs)) old.current))) (lists_of (all xs)))
     c.deref_mut.ensures.value (c.go_on.ensures.looks on (parts-standings g.C.Cursor.points g.C.Cursor.place g.C.Cursor.is_part c.deref_mut.result.now
     (subst (λ (xs : List _). All (λ x. IsTrue (g.C.Cursor.is_part x)) xs) (sym c.deref_mut.ensures.value) are))) in
-    next-looks g.C.Cursor.points g.C.Cursor.place g.C.Cursor.is_part old.ahead old.parts.items now old.current c.leading-self.result c.args.steps.now c.go_on.new.steps
+    next-looks g.C.Cursor.points g.C.Cursor.place g.C.Cursor.is_part old.ahead old.parts.items now old.current c.leading-self.result c.args.looks.now c.go_on.new.looks
     g.met.C.Cursor.rising old.settled on done looks

@@ -1,8 +1,8 @@
 use Rattle.std.proofs.Common.{◌≡◌, ◌++◌, false, List, length, take, drop, sym, ap, subst, ◌∙◌, arith}
 use Rattle.std.specs.Prelude.{IsSome}
 use Rattle.merge_cursor.specs.Merged.{merged}
-use Rattle.merge_cursor.specs.Standing.{standings, heads, head_of, positioned}
-use Rattle.merge_cursor.specs.Moves.{cut_before}
+use Rattle.merge_cursor.specs.views.Standing.{standings, heads, head_of, positioned}
+use Rattle.merge_cursor.specs.views.Moves.{cut_before}
 use Rattle.merge_cursor.proofs.CutLaws.{cut_before-IsCut}
 use Rattle.merge_cursor.proofs.ShownLaws.{rising-standings, place-back}
 use Rattle.merge_cursor.proofs.StepLaws.{After, current_some}

@@ -2,7 +2,7 @@ use Rattle.std.proofs.Common.{◌≡◌, ◌<◌, ◌+◌, ◌++◌, ℕ, true, 
 use Rattle.std.specs.Prelude.{All, IsTrue, nat_lt}
 use Rattle.mvcc_key.specs.Encoded.{name_in}
 use Rattle.merge_cursor.specs.Merged.{merged, seek_looks}
-use Rattle.merge_cursor.specs.Standing.{standings, lists_of, positioned}
+use Rattle.merge_cursor.specs.views.Standing.{standings, lists_of, positioned}
 use Rattle.merge_cursor.proofs.CutLaws.{below-IsCut, count_in-below}
 use Rattle.merge_cursor.proofs.ShownLaws.{below}
 use Rattle.merge_cursor.proofs.StepLaws.{After, sought-ge, seek-some}

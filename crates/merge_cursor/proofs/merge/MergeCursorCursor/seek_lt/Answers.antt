@@ -2,7 +2,7 @@ use Rattle.std.proofs.Common.{◌≡◌, ◌<◌, ◌++◌, false, List, length,
 use Rattle.std.specs.Prelude.{nat_lt}
 use Rattle.mvcc_key.specs.Encoded.{name_in}
 use Rattle.merge_cursor.specs.Merged.{merged}
-use Rattle.merge_cursor.specs.Standing.{standings, lists_of, positioned}
+use Rattle.merge_cursor.specs.views.Standing.{standings, lists_of, positioned}
 use Rattle.merge_cursor.proofs.CutLaws.{below-IsCut, count_in-below}
 use Rattle.merge_cursor.proofs.ShownLaws.{below}
 use Rattle.merge_cursor.proofs.StepLaws.{After, sought-lt, seek-some}

@@ -1,7 +1,7 @@
 use Rattle.std.proofs.Common.{arith}
 use Rattle.merge_cursor.specs.Merged.{merged-rising}
-use Rattle.merge_cursor.specs.Standing.{standings, lists_of}
-use Rattle.merge_cursor.specs.Seen.{points_in}
+use Rattle.merge_cursor.specs.views.Standing.{standings, lists_of}
+use Rattle.merge_cursor.specs.views.Seen.{points_in}
 use Rattle.merge_cursor.proofs.VisibleLaws.{rising-visible, encodable-visible}
 use Rattle.merge_cursor.proofs.visible.VisibleCursor.of.Goals as goal
 

@@ -2,8 +2,8 @@ use Rattle.std.proofs.Common.{sym, ap, ◌∙◌}
 use Rattle.std.specs.Option.{option_map}
 use Rattle.mvcc_key.specs.KeyFormat.{encoded_name}
 use Rattle.mvcc_key.specs.Points.{Point}
-use Rattle.merge_cursor.specs.Standing.{standings}
-use Rattle.merge_cursor.specs.Seen.{points_in, place_of}
+use Rattle.merge_cursor.specs.views.Standing.{standings}
+use Rattle.merge_cursor.specs.views.Seen.{points_in, place_of}
 use Rattle.merge_cursor.proofs.MergeLaws.{merged_place-le}
 use Rattle.merge_cursor.proofs.VisibleLaws.{shown-visible}
 use Rattle.merge_cursor.proofs.visible.VisibleCursorCursor.key.Goals as goal

@@ -1,8 +1,8 @@
 use Rattle.std.proofs.Common.{◌≡◌, ◌≤◌, ◌+◌, ◌-◌, ℕ, List, length, take, sym, ap, subst, ◌∙◌, arith}
 use Rattle.mvcc_key.specs.Points.{Point, IsRising, AreEncodable, point_at}
 use Rattle.merge_cursor.specs.Merged.{entries_before}
-use Rattle.merge_cursor.specs.Standing.{standings}
-use Rattle.merge_cursor.specs.Seen.{points_in, place_of}
+use Rattle.merge_cursor.specs.views.Standing.{standings}
+use Rattle.merge_cursor.specs.views.Seen.{points_in, place_of}
 use Rattle.merge_cursor.specs.Visible.{visible, visible_place}
 use Rattle.merge_cursor.proofs.MergeLaws.{merged_place-le}
 use Rattle.merge_cursor.proofs.VisibleLaws.{place-next, shown-visible, arrives-on}
@@ -41,7 +41,7 @@ returns-clause-looks g c = λ are on.
     let old = c.args.self.now.merged in
     let moved = c.next.new.self in
     let new = c.skip_on.new.merged in
-    let more = subst (λ (ls : List (List Point)). c.skip_on.new.steps + entries_before (point_at (points moved) (place moved)) ls ≤ c.next.new.steps + entries_before (point_at (points new) (place new)) ls)
+    let more = subst (λ (ls : List (List Point)). c.skip_on.new.looks + entries_before (point_at (points moved) (place moved)) ls ≤ c.next.new.looks + entries_before (point_at (points new) (place new)) ls)
     c.next.ensures.lists (c.skip_on.ensures.looks (c.next.ensures.parts are) c.next.ensures.ahead) in
     let is : point_at (visible (points new)) (visible_place (points new) (place new)) ≡ point_at (points new) (place new) =
     shown-visible (points new) (place new) (merged_place-le new.ahead (all new.parts.items) new.current) c.skip_on.ensures.stands in

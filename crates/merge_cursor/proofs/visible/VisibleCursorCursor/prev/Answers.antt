@@ -1,7 +1,7 @@
 use Rattle.std.proofs.Common.{◌≡◌, ℕ, List, length, take, sym, ap, subst, ◌∙◌}
 use Rattle.mvcc_key.specs.Points.{Point, IsRising, AreEncodable}
-use Rattle.merge_cursor.specs.Standing.{standings}
-use Rattle.merge_cursor.specs.Seen.{points_in, place_of}
+use Rattle.merge_cursor.specs.views.Standing.{standings}
+use Rattle.merge_cursor.specs.views.Seen.{points_in, place_of}
 use Rattle.merge_cursor.specs.Visible.{visible}
 use Rattle.merge_cursor.proofs.MergeLaws.{merged_place-le}
 use Rattle.merge_cursor.proofs.VisibleLaws.{place-prev, arrives-back}

@@ -2,8 +2,8 @@ use Rattle.std.proofs.Common.{◌≡◌, ◌≤◌, ◌+◌, ◌-◌, ℕ, List,
 use Rattle.mvcc_key.specs.Encoded.{name_in}
 use Rattle.mvcc_key.specs.Points.{Point, IsRising, AreEncodable, point_at, count_below}
 use Rattle.merge_cursor.specs.Merged.{merged-rising, entries_before}
-use Rattle.merge_cursor.specs.Standing.{standings, lists_of}
-use Rattle.merge_cursor.specs.Seen.{points_in, place_of}
+use Rattle.merge_cursor.specs.views.Standing.{standings, lists_of}
+use Rattle.merge_cursor.specs.views.Seen.{points_in, place_of}
 use Rattle.merge_cursor.specs.Visible.{visible, visible_place}
 use Rattle.merge_cursor.proofs.MergeLaws.{merged_place-le}
 use Rattle.merge_cursor.proofs.VisibleLaws.{visible-below, shown-visible, arrives-on}
@@ -44,7 +44,7 @@ returns-clause-looks g c = λ are.
     let old = c.args.self.now.merged in
     let moved = c.seek_ge.new.self in
     let new = c.skip_on.new.merged in
-    let more = subst (λ (ls : List (List Point)). c.skip_on.new.steps + entries_before (point_at (points moved) (place moved)) ls ≤ c.seek_ge.new.steps + entries_before (point_at (points new) (place new)) ls)
+    let more = subst (λ (ls : List (List Point)). c.skip_on.new.looks + entries_before (point_at (points moved) (place moved)) ls ≤ c.seek_ge.new.looks + entries_before (point_at (points new) (place new)) ls)
     c.seek_ge.ensures.lists (c.skip_on.ensures.looks (c.seek_ge.ensures.parts are) c.seek_ge.ensures.ahead) in
     let is : point_at (visible (points new)) (visible_place (points new) (place new)) ≡ point_at (points new) (place new) =
     shown-visible (points new) (place new) (merged_place-le new.ahead (all new.parts.items) new.current) c.skip_on.ensures.stands in

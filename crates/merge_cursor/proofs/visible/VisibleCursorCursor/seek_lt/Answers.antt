@@ -3,8 +3,8 @@ use Rattle.mvcc_key.specs.Encoded.{name_in}
 use Rattle.mvcc_key.specs.Points.{Point, IsRising, AreEncodable}
 use Rattle.mvcc_key.proofs.PointLaws.{count_below-le}
 use Rattle.merge_cursor.specs.Merged.{merged-rising}
-use Rattle.merge_cursor.specs.Standing.{standings, lists_of}
-use Rattle.merge_cursor.specs.Seen.{points_in, place_of}
+use Rattle.merge_cursor.specs.views.Standing.{standings, lists_of}
+use Rattle.merge_cursor.specs.views.Seen.{points_in, place_of}
 use Rattle.merge_cursor.specs.Visible.{visible}
 use Rattle.merge_cursor.proofs.VisibleLaws.{visible-below, arrives-back}
 use Rattle.merge_cursor.proofs.visible.VisibleCursorCursor.seek_lt.Goals as goal

@@ -4,7 +4,7 @@ use Rattle.std.proofs.lemmas.Result.{err_from_is_err_and}
 use Rattle.mvcc_key.specs.Refusal.{MomentTooEarly}
 use Rattle.stat_core.specs.ComputeStats.{overflowing}
 use Rattle.mvcc_engine.specs.Step.{Finished, statistics}
-use Rattle.mvcc_engine.specs.Kept.{IsCounted}
+use Rattle.mvcc_engine.specs.views.Kept.{IsCounted}
 use Rattle.mvcc_engine.proofs.KeptLaws.{aged-is, aged-no_debt, counted-later}
 use Rattle.mvcc_engine.proofs.PlanLaws.{state_of}
 use Rattle.mvcc_engine.proofs.StepLaws.{age-early, age-over, age-taken}

@@ -3,10 +3,10 @@ use Rattle.std.proofs.Common.{◌≡◌, ap, ap₂, ◌∙◌}
 use Rattle.std.specs.Prelude.{max, length}
 use Rattle.std.specs.Option.{option_map}
 use Rattle.std.proofs.lemmas.Result.{err_from_is_err_and}
-use Rattle.mvcc_key.specs.Seen.{time_of}
-use Rattle.mvcc_value.specs.Seen.{seen_body}
-use Rattle.stat_core.specs.Seen as shapes
-use Rattle.mvcc_engine.specs.Change.{shape, change_by_shapes}
+use Rattle.mvcc_key.specs.views.Seen.{time_of}
+use Rattle.mvcc_value.specs.views.Seen.{seen_body}
+use Rattle.stat_core.specs.views.Seen as shapes
+use Rattle.mvcc_engine.specs.views.Change.{shape, change_by_shapes}
 use Rattle.mvcc_engine.proofs.RuleLaws.{change-unchecked}
 use Rattle.mvcc_engine.proofs.KeptLaws.{new-kept, new-short, newest-short, short-shape}
 use Rattle.mvcc_engine.proofs.PlanLaws.{ord_max-max, not_before, refused, no_debt, overflows, taken, short-seen, present-is}

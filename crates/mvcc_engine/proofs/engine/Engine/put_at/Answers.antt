@@ -1,6 +1,6 @@
 -- A put is a write of a value.
 use Rattle.std.proofs.lemmas.Result.{err_from_is_err_and}
-use Rattle.mvcc_key.specs.Seen.{time_of}
+use Rattle.mvcc_key.specs.views.Seen.{time_of}
 use Rattle.mvcc_engine.specs.Step.{Finished}
 use Rattle.mvcc_engine.proofs.StepLaws.{put-refused, put-taken}
 use Rattle.mvcc_engine.proofs.engine.Engine.put_at.Goals as goal

@@ -1,6 +1,6 @@
 -- What was planned keeps the statistics a recount.
-use Rattle.mvcc_key.specs.Seen.{time_of}
-use Rattle.mvcc_value.specs.Seen.{seen_body}
+use Rattle.mvcc_key.specs.views.Seen.{time_of}
+use Rattle.mvcc_value.specs.views.Seen.{seen_body}
 use Rattle.mvcc_engine.proofs.PlanLaws.{counted-planned}
 use Rattle.mvcc_engine.proofs.engine.Engine.write.Goals as goal
 

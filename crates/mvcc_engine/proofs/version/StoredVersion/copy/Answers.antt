@@ -1,8 +1,8 @@
 -- What is encoded is what the bytes spell.
 use Rattle.std.proofs.Common.{ap, ◌∙◌}
 use Rattle.mvcc_key.specs.KeyFormat.{name_of}
-use Rattle.mvcc_key.specs.Seen.{time_of}
-use Rattle.mvcc_value.specs.Seen.{seen_body}
+use Rattle.mvcc_key.specs.views.Seen.{time_of}
+use Rattle.mvcc_value.specs.views.Seen.{seen_body}
 use Rattle.mvcc_engine.proofs.SpelledLaws.{spelled-copy, copy-is}
 use Rattle.mvcc_engine.proofs.version.StoredVersion.copy.Goals as goal
 

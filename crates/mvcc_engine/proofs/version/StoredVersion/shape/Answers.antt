@@ -1,9 +1,9 @@
 -- Its bytes are its value.
 use Rattle.std.proofs.Common.{ap, ◌∙◌}
-use Rattle.mvcc_key.specs.Seen.{time_of}
+use Rattle.mvcc_key.specs.views.Seen.{time_of}
 use Rattle.mvcc_key.specs.Encoded.{name_in}
 use Rattle.stat_core.specs.DeadSince.{shape_of}
-use Rattle.mvcc_engine.specs.Change.{shape}
+use Rattle.mvcc_engine.specs.views.Change.{shape}
 use Rattle.mvcc_engine.proofs.SpelledLaws.{held-shape}
 use Rattle.mvcc_engine.proofs.version.StoredVersion.shape.Goals as goal
 

@@ -2,7 +2,7 @@
 use Rattle.std.proofs.Common.{ap}
 use Rattle.merge_cursor.specs.Merged.{merged}
 use Rattle.lsm_store.specs.Shown.{shown, parts_of}
-use Rattle.mvcc_engine.specs.Stored.{held_in}
+use Rattle.mvcc_engine.specs.views.Stored.{held_in}
 use Rattle.mvcc_engine.proofs.versions.Versions.new.Goals as goal
 
 pub invariant_of-result : goal.invariant_of-result

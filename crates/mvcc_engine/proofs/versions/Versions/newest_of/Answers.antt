@@ -6,8 +6,8 @@ use Rattle.mvcc_key.specs.Encoded.{known_name}
 use Rattle.mvcc_key.specs.Points.{count_below}
 use Rattle.lsm_store.specs.Shown.{shown}
 use Rattle.lsm_store.proofs.ApplyLaws.{sorted-shown}
-use Rattle.mvcc_engine.specs.Places.{AreVersions, newest_version}
-use Rattle.mvcc_engine.specs.Change.{shape}
+use Rattle.mvcc_engine.specs.views.Places.{AreVersions, newest_version}
+use Rattle.mvcc_engine.specs.views.Change.{shape}
 use Rattle.mvcc_engine.proofs.StoredLaws.{AreVersions-points, newest-shape, newest-none}
 use Rattle.mvcc_engine.proofs.versions.Versions.newest_of.Goals as goal
 

@@ -3,9 +3,9 @@ use Rattle.std.proofs.Common.{ap, ◌∙◌}
 use Rattle.lsm_store.specs.Shown.{shown}
 use Rattle.mvcc_key.specs.Lists.{put_in_order}
 use Rattle.mvcc_key.specs.History.{version_cmp}
-use Rattle.mvcc_engine.specs.Places.{history_of}
+use Rattle.mvcc_engine.specs.views.Places.{history_of}
 use Rattle.mvcc_engine.specs.Step.{parts_between}
-use Rattle.mvcc_engine.specs.Stored.{versions_of}
+use Rattle.mvcc_engine.specs.views.Stored.{versions_of}
 use Rattle.mvcc_engine.proofs.StoredLaws.{put-versions, put-parts, put-invariant, OnOk-both}
 use Rattle.mvcc_engine.proofs.versions.Versions.put.Goals as goal
 

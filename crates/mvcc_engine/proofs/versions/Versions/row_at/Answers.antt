@@ -4,11 +4,11 @@ use Rattle.std.proofs.lemmas.Result.{IfOk-weaker}
 use Rattle.mvcc_key.specs.KeyFormat.{name_of}
 use Rattle.mvcc_key.specs.Encoded.{known_name}
 use Rattle.mvcc_key.specs.Points.{count_below}
-use Rattle.mvcc_key.specs.Seen.{time_of}
+use Rattle.mvcc_key.specs.views.Seen.{time_of}
 use Rattle.lsm_store.specs.Shown.{shown}
 use Rattle.lsm_store.proofs.ApplyLaws.{sorted-shown}
-use Rattle.mvcc_engine.specs.Places.{history_of}
-use Rattle.mvcc_engine.specs.Stored.{versions_of}
+use Rattle.mvcc_engine.specs.views.Places.{history_of}
+use Rattle.mvcc_engine.specs.views.Stored.{versions_of}
 use Rattle.mvcc_engine.specs.Read.{get}
 use Rattle.mvcc_engine.proofs.StoredLaws.{AreVersions-points}
 use Rattle.mvcc_engine.proofs.RuleLaws.{get-none, get-found}

@@ -1,6 +1,6 @@
 use Rattle.std.proofs.Common.{sym, subst}
 use Rattle.mvcc_key.specs.Canonical.{IsCanonical}
-use Rattle.mvcc_key.specs.Seen.{time_of}
+use Rattle.mvcc_key.specs.views.Seen.{time_of}
 use Rattle.range_key.proofs.PartLaws.{canonical-take, canonical-drop}
 use Rattle.range_key.proofs.ChangedLaws.{IsAdded, added-list}
 use Rattle.range_key.proofs.list.FragmentList.add.Goals as goal

@@ -1,7 +1,7 @@
 use Rattle.std.proofs.Common.{◌∙◌, sym, subst, take}
 use Rattle.mvcc_key.specs.Canonical.{IsCanonical}
 use Rattle.mvcc_key.proofs.CanonicalLaws.{fragments-canonical}
-use Rattle.range_key.specs.Changes.{tombstones_after}
+use Rattle.range_key.specs.views.Changes.{tombstones_after}
 use Rattle.range_key.proofs.ChangedLaws.{fragments-none}
 use Rattle.range_key.proofs.list.FragmentList.of_ops.Goals as goal
 

@@ -1,6 +1,6 @@
 use Rattle.std.proofs.Common.{◌≡◌, take}
 use Rattle.mvcc_key.specs.Fragments.{fragments}
-use Rattle.range_key.specs.Changes.{tombstones_after}
+use Rattle.range_key.specs.views.Changes.{tombstones_after}
 use Rattle.range_key.proofs.list.FragmentList.of_ops.Given as goal
 
 abbrev pub invariant-loop-op : goal.invariant-loop-op

@@ -1,6 +1,6 @@
 use Rattle.std.proofs.Common.{sym, subst}
 use Rattle.mvcc_key.specs.Canonical.{IsCanonical}
-use Rattle.range_key.specs.Taken.{is_taken}
+use Rattle.range_key.specs.views.Taken.{is_taken}
 use Rattle.range_key.proofs.PartLaws.{canonical-take, canonical-drop}
 use Rattle.range_key.proofs.ChangedLaws.{IsTaken, taken-list}
 use Rattle.range_key.proofs.list.FragmentList.take_out.Goals as goal

@@ -1,7 +1,7 @@
 use Rattle.std.proofs.Common.{◌∙◌, ◌+◌, ◌-◌, ◌≡◌, ap, length, arith}
 use Rattle.mvcc_key.specs.Order.{Key}
 use Rattle.mvcc_key.specs.Fragments.{part_within}
-use Rattle.range_key.specs.Joining.{joined_on}
+use Rattle.range_key.specs.views.Joining.{joined_on}
 use Rattle.range_key.proofs.PartLaws.{cut_from-last}
 use Rattle.range_key.proofs.pieces.Pieces.push_from.Goals as goal
 

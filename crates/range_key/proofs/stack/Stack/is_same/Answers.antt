@@ -1,7 +1,7 @@
 use Rattle.std.proofs.Common.{sym, ◌∙◌, ap₂}
 use Rattle.std.specs.Cmp.Derive.Mapped.{pointwise-map}
 use Rattle.mvcc_key.specs.Order.{is_same_time}
-use Rattle.mvcc_key.specs.Seen.{time_of}
+use Rattle.mvcc_key.specs.views.Seen.{time_of}
 use Rattle.mvcc_key.specs.Fragments.{is_same_stack}
 use Rattle.range_key.proofs.stack.Stack.is_same.Goals as goal
 

@@ -1,7 +1,7 @@
 use Rattle.std.proofs.Common.{◌∙◌, sym, ap, subst, map, ◌++◌, ◌∷◌, []}
 use Rattle.std.specs.List.Sorted.{IsStrictlySortedBy}
 use Rattle.mvcc_key.specs.Order.{newer_first}
-use Rattle.mvcc_key.specs.Seen.{time_of}
+use Rattle.mvcc_key.specs.views.Seen.{time_of}
 use Rattle.range_key.proofs.TimesLaws.{one-sorted}
 use Rattle.range_key.proofs.stack.Stack.one.Goals as goal
 

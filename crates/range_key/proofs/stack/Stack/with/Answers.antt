@@ -3,7 +3,7 @@ use Rattle.std.specs.List.{insert}
 use Rattle.std.specs.List.Sorted.{IsStrictlySortedBy}
 use Rattle.mvcc_key.specs.Lists.{put_in_order}
 use Rattle.mvcc_key.specs.Order.{newer_first}
-use Rattle.mvcc_key.specs.Seen.{time_of}
+use Rattle.mvcc_key.specs.views.Seen.{time_of}
 use Rattle.mvcc_key.proofs.OrderLaws.{newer_first-total}
 use Rattle.mvcc_key.proofs.SortedLaws.{put_in_order-sorted}
 use Rattle.range_key.proofs.TimesLaws.{put-found, put-insert, answers-rise}

@@ -3,8 +3,8 @@ use Rattle.std.specs.List.Sorted.{IsStrictlySortedBy}
 use Rattle.std.proofs.lemmas.List.{take_all}
 use Rattle.std.proofs.lemmas.List.Kept.{IsStrictlySortedBy-filter}
 use Rattle.mvcc_key.specs.Order.{newer_first}
-use Rattle.mvcc_key.specs.Seen.{time_of}
-use Rattle.range_key.specs.Taken.{is_taken}
+use Rattle.mvcc_key.specs.views.Seen.{time_of}
+use Rattle.range_key.specs.views.Taken.{is_taken}
 use Rattle.range_key.proofs.stack.Stack.without.Goals as goal
 
 pub invariant_of-result : goal.invariant_of-result

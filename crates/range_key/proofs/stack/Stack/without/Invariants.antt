@@ -1,6 +1,6 @@
 use Rattle.std.proofs.Common.{◌≡◌, take, map, filter, not}
-use Rattle.mvcc_key.specs.Seen.{time_of}
-use Rattle.range_key.specs.Taken.{is_taken}
+use Rattle.mvcc_key.specs.views.Seen.{time_of}
+use Rattle.range_key.specs.views.Taken.{is_taken}
 use Rattle.range_key.proofs.stack.Stack.without.Given as goal
 
 abbrev pub invariant-loop-time : goal.invariant-loop-time

@@ -1,7 +1,7 @@
 use Rattle.std.proofs.Common.{refl, sym, ap, ◌∙◌}
-use Rattle.mvcc_key.specs.Seen.{time_of}
+use Rattle.mvcc_key.specs.views.Seen.{time_of}
 use Rattle.std.specs.Option.{option_map}
-use Rattle.run_block.specs.Places.{span_seen}
+use Rattle.run_block.specs.views.Places.{span_seen}
 use Rattle.run_block.proofs.IndexLaws.{span_with, index-point}
 use Rattle.run_block.proofs.index.Index.add_point.Goals as goal
 

@@ -1,7 +1,7 @@
 -- Ageing is a step of the engine.
 use Rattle.std.proofs.Common.{◌≡◌, ◌++◌, refl, ap, ◌∙◌, subst, Ok, Err, Some}
 use Rattle.std.proofs.lemmas.Result.{on_ok_weaker}
-use Rattle.mvcc_engine.specs.Seen.{fault_of}
+use Rattle.mvcc_engine.specs.views.Seen.{fault_of}
 use Rattle.mvcc_engine.specs.Step as engine
 use Rattle.mvcc_engine.specs.Step.{Finished, step}
 use Rattle.script_run.specs.Grammar.{Age}

@@ -4,7 +4,7 @@ use Rattle.std.specs.Option.{option_map}
 use Rattle.std.proofs.lemmas.Result.{on_ok_weaker}
 use Rattle.script_run.specs.Text.{Refused, BadLine, show}
 use Rattle.script_run.specs.Output.{carry_out, performed}
-use Rattle.script_run.specs.SeenLine.{line_of}
+use Rattle.script_run.specs.views.SeenLine.{line_of}
 use Rattle.script_run.proofs.TextLaws.{on_ok}
 use Rattle.script_run.proofs.StepLaws.{carry_out-bad, carry_out-performed, performed-blank, answered, unanswered}
 use Rattle.script_run.proofs.session.Session.answer.Goals as goal

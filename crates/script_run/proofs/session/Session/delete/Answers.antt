@@ -1,7 +1,7 @@
 -- A deletion is a step of the engine.
 use Rattle.std.proofs.Common.{◌≡◌, refl, ◌∙◌, subst, Ok}
-use Rattle.mvcc_key.specs.Seen.{time_of}
-use Rattle.mvcc_engine.specs.Seen.{Tells, refusal_of}
+use Rattle.mvcc_key.specs.views.Seen.{time_of}
+use Rattle.mvcc_engine.specs.views.Seen.{Tells, refusal_of}
 use Rattle.mvcc_engine.specs.Step as engine
 use Rattle.mvcc_engine.specs.Step.{WasThere, step}
 use Rattle.script_run.specs.Grammar.{Del}

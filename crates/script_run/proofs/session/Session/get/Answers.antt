@@ -2,15 +2,15 @@
 use Rattle.std.proofs.Common.{◌≡◌, ◌++◌, refl, ap, ◌∙◌}
 use Rattle.std.specs.Option.{option_map}
 use Rattle.std.proofs.lemmas.Result.{on_ok_weaker}
-use Rattle.mvcc_key.specs.Seen.{time_of}
-use Rattle.mvcc_value.specs.Seen.{found_of}
+use Rattle.mvcc_key.specs.views.Seen.{time_of}
+use Rattle.mvcc_value.specs.views.Seen.{found_of}
 use Rattle.mvcc_engine.specs.Read as read
 use Rattle.mvcc_engine.specs.Step as engine
 use Rattle.mvcc_engine.specs.Step.{step}
 use Rattle.script_run.specs.Grammar.{Get}
 use Rattle.script_run.specs.Output.{got}
 use Rattle.script_run.specs.Text.{Got, show}
-use Rattle.script_run.specs.Seen.{answer_of}
+use Rattle.script_run.specs.views.Seen.{answer_of}
 use Rattle.script_run.proofs.StepLaws.{taken, step-get, lent}
 use Rattle.script_run.proofs.session.Session.get.Goals as goal
 

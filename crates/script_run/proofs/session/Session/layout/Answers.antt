@@ -2,7 +2,7 @@
 use Rattle.std.proofs.Common.{◌≤◌, ◌++◌, length, map, flat_map, ap, ◌∙◌, subst}
 use Rattle.std.proofs.lemmas.Result.{on_ok_weaker}
 use Rattle.lsm_store.specs.Parts.{layout}
-use Rattle.lsm_store.specs.Seen.{seen_shape}
+use Rattle.lsm_store.specs.views.Seen.{seen_shape}
 use Rattle.mvcc_engine.specs.Step.{State}
 use Rattle.script_run.specs.Output.{layout_answers}
 use Rattle.script_run.specs.Text.{show}

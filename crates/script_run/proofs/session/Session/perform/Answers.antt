@@ -6,8 +6,8 @@ use Rattle.mvcc_engine.specs.Step as engine
 use Rattle.mvcc_engine.specs.Step.{statistics, step}
 use Rattle.script_run.specs.Grammar as grammar
 use Rattle.script_run.specs.Output.{performed, statistics_shown, statistics_answer}
-use Rattle.script_run.specs.Answered.{IsAnswered}
-use Rattle.script_run.specs.SeenLine.{line_of}
+use Rattle.script_run.specs.views.Answered.{IsAnswered}
+use Rattle.script_run.specs.views.SeenLine.{line_of}
 use Rattle.script_run.specs.Text.{Statistics, show}
 use Rattle.script_run.proofs.StepLaws.{taken, step-stats}
 use Rattle.script_run.proofs.session.Session.perform.Goals as goal

@@ -1,8 +1,8 @@
 -- A put is a step of the engine.
 use Rattle.std.proofs.Common.{◌≡◌, refl, ◌∙◌, subst, Ok}
 use Rattle.mvcc_key.specs.History.{Bytes}
-use Rattle.mvcc_key.specs.Seen.{time_of}
-use Rattle.mvcc_engine.specs.Seen.{Tells, refusal_of}
+use Rattle.mvcc_key.specs.views.Seen.{time_of}
+use Rattle.mvcc_engine.specs.views.Seen.{Tells, refusal_of}
 use Rattle.mvcc_engine.specs.Step as engine
 use Rattle.mvcc_engine.specs.Step.{Finished, step}
 use Rattle.script_run.specs.Grammar.{Put}

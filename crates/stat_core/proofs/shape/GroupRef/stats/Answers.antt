@@ -1,9 +1,9 @@
 use Rattle.std.proofs.Common.{◌≡◌, ◌+◌, pos, refl, arith, ap, sym, ◌∙◌, length, map}
 use Rattle.std.specs.Option.{option_map}
 use Rattle.std.proofs.lemmas.List.{length-map}
-use Rattle.mvcc_key.specs.Seen.{time_of}
+use Rattle.mvcc_key.specs.views.Seen.{time_of}
 use Rattle.stat_core.specs.ComputeStats.{KeyShape, live_key, newest_dead, key_sums}
-use Rattle.stat_core.specs.Seen.{version_of, lent_shape_of}
+use Rattle.stat_core.specs.views.Seen.{version_of, lent_shape_of}
 use Rattle.stat_core.proofs.FieldLaws.{each_field}
 use Rattle.stat_core.proofs.GroupLaws.{KeyAdds, key_sums-adds, val_bytes-is, live_bytes-is, gc_bytes_age-is, lengths-shapes, live_key-within}
 use Rattle.stat_core.proofs.NumberLaws.{signed_held}

@@ -1,7 +1,7 @@
 use Rattle.std.proofs.lemmas.Result.{err_from_is_err_and}
-use Rattle.stat_core.specs.Seen.{field_of}
+use Rattle.stat_core.specs.views.Seen.{field_of}
 use Rattle.stat_core.proofs.CounterLaws.{counted-fits}
-use Rattle.stat_core.specs.Counters.{changed_number, moved_number}
+use Rattle.stat_core.specs.views.Counters.{changed_number, moved_number}
 use Rattle.stat_core.proofs.StatsLaws.{NoDebt-same, changed-moved, changed-running, changed-fits, changed-overflows}
 use Rattle.stat_core.proofs.stats.Stats.change.Goals as goal
 

@@ -1,8 +1,8 @@
 use Rattle.std.proofs.Common.{◌≡◌, ◌+◌, ◌*◌, ◌≤◌, [], drop, map, None}
 use Rattle.std.specs.Option.{option_map}
-use Rattle.mvcc_key.specs.Seen.{time_of}
+use Rattle.mvcc_key.specs.views.Seen.{time_of}
 use Rattle.stat_core.specs.ComputeStats.{versions_sums}
-use Rattle.stat_core.specs.Seen.{version_of}
+use Rattle.stat_core.specs.views.Seen.{version_of}
 use Rattle.stat_core.proofs.tally.Tally.of_versions.Given as goal
 
 abbrev pub invariant-loop-version : goal.invariant-loop-version

@@ -1,4 +1,4 @@
-use Rattle.txn_state.specs.SeenId.{id_of}
+use Rattle.txn_state.specs.views.SeenId.{id_of}
 use Rattle.txn_state.proofs.id.UuidFromTxnId.from.Goals as goal
 
 pub returns : goal.returns

@@ -2,7 +2,7 @@ use Rattle.std.proofs.Common.{◌≡◌, Bool, true, false, cond, List, [], ◌�
 use Rattle.std.specs.Prelude.{Result, Ok, Err, OnOk, is_err, is_ok}
 use Rattle.mvcc_key.specs.Encoded.{IsName}
 use Rattle.mvcc_key.specs.declared.batch.PointOp.{PointOp}
-use Rattle.mvcc_key.specs.SeenPoint.{points_of, AreNamed, IsAboveLast}
+use Rattle.mvcc_key.specs.views.SeenPoint.{points_of, AreNamed, IsAboveLast}
 use Rattle.mvcc_key.specs.Points.{IsRising}
 use Rattle.mvcc_key.proofs.SeenPointLaws.{named-push, rising-push, encodable-named}
 use Rattle.mvcc_key.proofs.tests.listed.Listed.push.Goals as goal

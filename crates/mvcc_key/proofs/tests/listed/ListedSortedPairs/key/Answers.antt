@@ -2,7 +2,7 @@ use Rattle.std.proofs.Common.{ℕ, List, length, ap, sym, refl, ◌∙◌, arith
 use Rattle.std.specs.Prelude.{Some}
 use Rattle.std.proofs.lemmas.Option.{slice_get_read}
 use Rattle.std.proofs.lemmas.List.{length-map}
-use Rattle.mvcc_key.specs.SeenPoint.{point_of}
+use Rattle.mvcc_key.specs.views.SeenPoint.{point_of}
 use Rattle.mvcc_key.proofs.SeenPointLaws.{key-named}
 use Rattle.mvcc_key.proofs.tests.listed.ListedSortedPairs.key.Goals as goal
 

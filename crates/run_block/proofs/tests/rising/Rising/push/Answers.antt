@@ -1,7 +1,7 @@
 use Rattle.std.proofs.Common.{◌≡◌, Bool, true, false, cond, List, [], ◌∷◌, ◌++◌, subst}
 use Rattle.std.specs.Prelude.{is_ok}
 use Rattle.std.proofs.lemmas.List.Elements.{All-push}
-use Rattle.mvcc_key.specs.SeenPoint.{IsAboveLast}
+use Rattle.mvcc_key.specs.views.SeenPoint.{IsAboveLast}
 use Rattle.mvcc_key.specs.declared.batch.PointOp.{PointOp}
 use Rattle.mvcc_key.proofs.SeenPointLaws.{rising-push}
 use Rattle.mem_table.specs.Entries.{IsStorable, AreEntries}

@@ -1,0 +1,6 @@
+-- Words that only contracts of the code need: how they view its values, and what holds inside.
+pub mod Looks
+pub mod Heads
+pub mod Seen
+pub mod SeenKey
+pub mod SeenPoint

@@ -1,0 +1,5 @@
+-- Words that only contracts of the code need: how they view its values, and what holds inside.
+pub mod SeenId
+pub mod SeenTxn
+pub mod Seen
+pub mod Texts
