@@ -31,8 +31,8 @@ pub apply-requires : goal.apply-requires
 apply-requires c =
     let table = c.self.inside.table.points in
     let runs = c.self.inside.runs.items in
-    let is = taken c.of.result c.retain_changes.new.ops.items c.into_vec-ops.result.items c.args.batch.points table c.deref.result.now runs
-    c.of.ensures c.retain_changes.ensures c.into_vec-ops.ensures c.deref.ensures.value in
+    let is = taken c.from_vec.result c.retain_changes.new.ops.items c.into_vec-ops.result.items c.args.batch.points table c.deref.result.now runs
+    c.from_vec.ensures c.retain_changes.ensures c.into_vec-ops.ensures c.deref.ensures.value in
     record {
       points = subst AreEntries (sym is) (entries-filter (changes_points (shown (lists_in table runs))) c.args.batch.points c.requires.points);
       ranges = c.requires.ranges;
@@ -42,10 +42,10 @@ pub returns-clause-shown : goal.returns-clause-shown
 returns-clause-shown c =
     let table = c.self.inside.table.points in
     let runs = c.self.inside.runs.items in
-    let is = taken c.of.result c.retain_changes.new.ops.items c.into_vec-ops.result.items c.args.batch.points table c.deref.result.now runs
-    c.of.ensures c.retain_changes.ensures c.into_vec-ops.ensures c.deref.ensures.value in
+    let is = taken c.from_vec.result c.retain_changes.new.ops.items c.into_vec-ops.result.items c.args.batch.points table c.deref.result.now runs
+    c.from_vec.ensures c.retain_changes.ensures c.into_vec-ops.ensures c.deref.ensures.value in
     on_ok_weaker c.apply.result
-    (λ h. shown-after (points_of c.args.batch.points) (points_of c.of.result) table c.apply.new.self.points (map (λ (r : Run). r.points) runs) c.args.self.now
+    (λ h. shown-after (points_of c.args.batch.points) (points_of c.from_vec.result) table c.apply.new.self.points (map (λ (r : Run). r.points) runs) c.args.self.now
     (sorted-rising (points_of c.args.batch.points) c.requires.points.rising)
     (ap points_of is ∙ points-filter (changes_points (shown (lists_in table runs))) c.args.batch.points)
     (ap (λ (t : Table). t.points) h) c.self.view_is)
@@ -55,10 +55,10 @@ pub returns-clause-parts : goal.returns-clause-parts
 returns-clause-parts c =
     let table = c.self.inside.table.points in
     let runs = c.self.inside.runs.items in
-    let is = taken c.of.result c.retain_changes.new.ops.items c.into_vec-ops.result.items c.args.batch.points table c.deref.result.now runs
-    c.of.ensures c.retain_changes.ensures c.into_vec-ops.ensures c.deref.ensures.value in
+    let is = taken c.from_vec.result c.retain_changes.new.ops.items c.into_vec-ops.result.items c.args.batch.points table c.deref.result.now runs
+    c.from_vec.ensures c.retain_changes.ensures c.into_vec-ops.ensures c.deref.ensures.value in
     on_ok_weaker c.apply.result
-    (λ h. parts-after (points_of c.args.batch.points) (points_of c.of.result) table c.apply.new.self.points (map (λ (r : Run). r.points) runs) c.args.self.now
+    (λ h. parts-after (points_of c.args.batch.points) (points_of c.from_vec.result) table c.apply.new.self.points (map (λ (r : Run). r.points) runs) c.args.self.now
     (sorted-rising (points_of c.args.batch.points) c.requires.points.rising)
     (ap points_of is ∙ points-filter (changes_points (shown (lists_in table runs))) c.args.batch.points)
     (ap (λ (t : Table). t.points) h) c.self.view_is)

@@ -8,10 +8,10 @@ use Rattle.mvcc_engine.proofs.version.StoredVersion.copy.Goals as goal
 
 pub invariant_of-result : goal.invariant_of-result
 invariant_of-result c =
-    spelled-copy c.args.key.now (time_of c.args.ts) (seen_body c.args.body) c.of.result c.of-2.result c.is_encodable.ensures
-    (c.of.ensures ∙ c.in_ok-encode_key.ensures.bytes) (ap name_of c.of.ensures ∙ c.in_ok-encode_key.ensures.read) (c.of-2.ensures ∙ c.in_ok-encode.ensures)
+    spelled-copy c.args.key.now (time_of c.args.ts) (seen_body c.args.body) c.from_vec.result c.from_vec-2.result c.is_encodable.ensures
+    (c.from_vec.ensures ∙ c.in_ok-encode_key.ensures.bytes) (ap name_of c.from_vec.ensures ∙ c.in_ok-encode_key.ensures.read) (c.from_vec-2.ensures ∙ c.in_ok-encode.ensures)
 
 pub returns : goal.returns
 returns c =
-    copy-is c.args.key.now (time_of c.args.ts) (seen_body c.args.body) c.of.result c.of-2.result c.is_encodable.ensures
-    (ap name_of c.of.ensures ∙ c.in_ok-encode_key.ensures.read) (c.of-2.ensures ∙ c.in_ok-encode.ensures)
+    copy-is c.args.key.now (time_of c.args.ts) (seen_body c.args.body) c.from_vec.result c.from_vec-2.result c.is_encodable.ensures
+    (ap name_of c.from_vec.ensures ∙ c.in_ok-encode_key.ensures.read) (c.from_vec-2.ensures ∙ c.in_ok-encode.ensures)
