@@ -12,6 +12,7 @@ use stat_core::{Group, GroupRef, VersionShape};
 
 /// By how much the statistics at a moment change where the version comes on top of the newest one of its key. Only these two
 /// are looked at, however many versions the key has.
+#[tactic(auto, using(stat_core::proofs::GroupLaws::no_stack))]
 pub fn change_of(
     key_len: u64,
     version: VersionShape,

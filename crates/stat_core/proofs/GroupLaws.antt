@@ -4,7 +4,8 @@ use Rattle.std.specs.Int.{w128}
 use Rattle.std.proofs.Common.{sym, ◌∙◌, ap, arith}
 use Rattle.std.proofs.lemmas.Int.{ints}
 use Rattle.std.specs.List.{AllByRecursion}
-use Rattle.mvcc_key.specs.Order.{Timestamp}
+use Rattle.std.specs.List.Sorted.{IsStrictlySortedBy}
+use Rattle.mvcc_key.specs.Order.{Timestamp, newer_first}
 use Rattle.stat_core.specs.views.Seen.{version_of}
 use Rattle.stat_core.specs.declared.shape.VersionShape as code
 use Rattle.stat_core.specs.DeadSince.{VersionShape, dead_since}
@@ -126,34 +127,32 @@ key_sums-adds now k =
       range_val_bytes = omega (arith, own.range_val_bytes, intents.range_val_bytes, versions.range_val_bytes);
     }
 
--- the versions under no tombstone
-under_none : (now : ℕ) (k : KeyShape) → k.stack ≡ [] → versions_sums now None [] k.versions ≡ versions_sums now None k.stack k.versions
-under_none now k none = ap (λ stack. versions_sums now None stack k.versions) (sym none)
-
 -- what the code counts of values, live bytes and ages is what the key adds
-pub val_bytes-is : (now : ℕ) (k : KeyShape) (t n : ℕ) → k.stack ≡ [] → t ≡ (versions_sums now None [] k.versions).val_bytes → n ≡ k.record_length + t
+pub val_bytes-is : (now : ℕ) (k : KeyShape) (t n : ℕ) → t ≡ (versions_sums now None k.stack k.versions).val_bytes → n ≡ k.record_length + t
     → n ≡ (key_sums now k).val_bytes
-val_bytes-is now k t n none tally is =
-    is ∙ ap (λ m. k.record_length + m) (tally ∙ ap (λ s. s.val_bytes) (under_none now k none)) ∙ sym ((key_sums-adds now k).val_bytes)
+val_bytes-is now k t n tally is = is ∙ ap (λ m. k.record_length + m) tally ∙ sym ((key_sums-adds now k).val_bytes)
 
-pub live_bytes-is : (now : ℕ) (k : KeyShape) (dead : Option Timestamp) (t n : ℕ) → k.stack ≡ [] → dead ≡ newest_dead k k.versions
-    → t ≡ (versions_sums now None [] k.versions).live_bytes → n ≡ t + (live_or_garbage now (k.key_length + 1 + k.record_length) dead).live_bytes
+pub live_bytes-is : (now : ℕ) (k : KeyShape) (dead : Option Timestamp) (t n : ℕ) → dead ≡ newest_dead k k.versions
+    → t ≡ (versions_sums now None k.stack k.versions).live_bytes → n ≡ t + (live_or_garbage now (k.key_length + 1 + k.record_length) dead).live_bytes
     → n ≡ (key_sums now k).live_bytes
-live_bytes-is now k dead t n none newest tally is =
-    let versions : t ≡ (versions_sums now None k.stack k.versions).live_bytes = tally ∙ ap (λ s. s.live_bytes) (under_none now k none) in
-    is ∙ (λ i. versions i + (live_or_garbage now (k.key_length + 1 + k.record_length) (newest i)).live_bytes) ∙ sym ((key_sums-adds now k).live_bytes)
+live_bytes-is now k dead t n newest tally is =
+    is ∙ (λ i. tally i + (live_or_garbage now (k.key_length + 1 + k.record_length) (newest i)).live_bytes) ∙ sym ((key_sums-adds now k).live_bytes)
 
-pub gc_bytes_age-is : (now : ℕ) (k : KeyShape) (dead : Option Timestamp) (t n : ℕ) → k.stack ≡ [] → dead ≡ newest_dead k k.versions
-    → t ≡ (versions_sums now None [] k.versions).gc_bytes_age → n ≡ t + (live_or_garbage now (k.key_length + 1 + k.record_length) dead).gc_bytes_age
+pub gc_bytes_age-is : (now : ℕ) (k : KeyShape) (dead : Option Timestamp) (t n : ℕ) → dead ≡ newest_dead k k.versions
+    → t ≡ (versions_sums now None k.stack k.versions).gc_bytes_age → n ≡ t + (live_or_garbage now (k.key_length + 1 + k.record_length) dead).gc_bytes_age
     → n ≡ (key_sums now k).gc_bytes_age
-gc_bytes_age-is now k dead t n none newest tally is =
-    let versions : t ≡ (versions_sums now None k.stack k.versions).gc_bytes_age = tally ∙ ap (λ s. s.gc_bytes_age) (under_none now k none) in
-    is ∙ (λ i. versions i + (live_or_garbage now (k.key_length + 1 + k.record_length) (newest i)).gc_bytes_age) ∙ sym ((key_sums-adds now k).gc_bytes_age)
+gc_bytes_age-is now k dead t n newest tally is =
+    is ∙ (λ i. tally i + (live_or_garbage now (k.key_length + 1 + k.record_length) (newest i)).gc_bytes_age) ∙ sym ((key_sums-adds now k).gc_bytes_age)
 
 -- the versions' lengths are those of their shapes
 pub lengths-shapes : (vs : List code.VersionShape) → AllByRecursion (λ v. v.value_length ≤ 2 ^ 25) (map version_of vs) → AllByRecursion (λ v. v.value_len ≤ 2 ^ 25) vs
 lengths-shapes [] all = tt
 lengths-shapes (v ∷ vs) all = (all.0, lengths-shapes vs all.1)
+
+-- where there is no tombstone, the stack is newest first
+pub no_stack : IsStrictlySortedBy newer_first []
+unfolding IsStrictlySortedBy
+no_stack = tt
 
 -- a live key counts 1 at most
 pub live_key-within : (dead : Option Timestamp) → live_key dead ≤ 1

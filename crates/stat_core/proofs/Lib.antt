@@ -11,4 +11,5 @@ pub mod PutLaws
 pub mod SettlingLaws
 pub mod CounterLaws
 pub mod StatsLaws
+pub mod LeastAboveLaws
 pub mod GroupLaws

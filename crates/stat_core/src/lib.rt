@@ -3,6 +3,7 @@
 
 mod counters;
 mod field;
+mod garbage;
 mod group;
 mod laws;
 mod seconds;

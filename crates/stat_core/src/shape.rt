@@ -1,15 +1,18 @@
 //! What the statistics see of a key and its pairs.
-ghost use Rattle.std.specs.Prelude.{◌≡◌, ◌≤◌, ◌^◌, [], pos};
+ghost use Rattle.std.specs.Prelude.{◌≡◌, ◌≤◌, ◌^◌, pos};
+ghost use Rattle.std.specs.List.Sorted.{IsStrictlySortedBy};
 ghost use Rattle.std.specs.Option.{option_map};
 ghost use Rattle.mvcc_key.specs.Field.{Field};
+ghost use Rattle.mvcc_key.specs.Order.{newer_first};
 ghost use Rattle.mvcc_key.specs.views.Seen.{time_of};
 ghost use Rattle.stat_core.specs.ComputeStats.{newest_dead, newest_length, intent_sums, key_sums, field};
 ghost use Rattle.stat_core.specs.views.Limits.{IsInLimits};
 ghost use Rattle.stat_core.specs.views.Seen.{number, key_shape_of, lent_shape_of};
 
 use crate::Group;
+use crate::garbage::dead_since;
 use crate::seconds::seconds_between;
-use crate::tally::{TIMESTAMP_BYTES, Tally, dead_since, live_keys, signed};
+use crate::tally::{TIMESTAMP_BYTES, Tally, live_keys, signed};
 use mvcc_key::{Elements, Timestamp};
 
 /// A version without its bytes: its timestamp, the length of its encoded value, and whether it is a deletion.
@@ -68,11 +71,11 @@ struct IntentTally {
 impl GroupRef<'_> {
     /// Since when the newest version is garbage.
     fn newest_dead(&self) -> Option<Timestamp>
-        requires { (lent_shape_of self.now).stack ≡ [] }
+        requires { IsStrictlySortedBy newer_first (lent_shape_of self.now).stack }
         ensures { option_map time_of result ≡ newest_dead (lent_shape_of self.now) (lent_shape_of self.now).versions }
     {
         match self.versions.first() {
-            Some(newest) => dead_since(newest, None),
+            Some(newest) => dead_since(newest, None, self.stack),
             None => None,
         }
     }
@@ -119,7 +122,7 @@ impl GroupRef<'_> {
         ensures within { (f : Field) → field f (key_sums now (lent_shape_of self.now)) ≤ 2 ^ 121 }
     {
         let dead = self.newest_dead();
-        let mut tally = Tally::of_versions(self.versions, now);
+        let mut tally = Tally::of_versions(self.versions, self.stack, now);
         tally.count(self.key_len + 1 + self.record_len, dead, now);
         let intent = self.intent_tally(now);
         let versions = self.versions.len() as u128;
@@ -144,7 +147,7 @@ impl GroupRef<'_> {
 
 /// What a key's pairs add to the statistics at a moment, in nanoseconds of wall time (CockroachDB's `ComputeStats`,
 /// `pkg/storage`, for one key). Lengths are at most 2^25 bytes and versions at most 2^60 in number, so that every sum is at
-/// most 2^121; no range tombstone is over the key.
+/// most 2^121. Each version costs a halving of the stack.
 pub fn group_stats(shape: &GroupShape, now: u64) -> Group
     requires { IsInLimits (key_shape_of shape.now) }
     ensures sums { (f : Field) → number f result ≡ pos (field f (key_sums now (key_shape_of shape.now))) }

@@ -1,14 +1,16 @@
 //! Bytes of points, live or garbage since a moment.
-ghost use Rattle.std.specs.Prelude.{◌≡◌, ◌≤◌, ◌<◌, ◌+◌, ◌*◌, ◌^◌, [], length, map, pos, None};
+ghost use Rattle.std.specs.Prelude.{◌≡◌, ◌≤◌, ◌<◌, ◌+◌, ◌*◌, ◌^◌, length, map, pos, None};
 ghost use Rattle.std.specs.List.{AllByRecursion};
+ghost use Rattle.std.specs.List.Sorted.{IsStrictlySortedBy};
 ghost use Rattle.std.specs.Option.{option_map};
+ghost use Rattle.mvcc_key.specs.Order.{newer_first};
 ghost use Rattle.mvcc_key.specs.views.Seen.{time_of};
 ghost use Rattle.stat_core.specs.ComputeStats.{age, live_or_garbage, versions_sums, live_key};
-ghost use Rattle.stat_core.specs.DeadSince.{dead_since};
 ghost use Rattle.stat_core.specs.views.Seen.{version_of};
 ghost use Rattle.stat_core.specs.views.Tallies.{Counts};
 
 use crate::VersionShape;
+use crate::garbage::dead_since;
 use crate::seconds::seconds_between;
 use mvcc_key::Timestamp;
 
@@ -32,17 +34,6 @@ fn age_of(bytes: u64, since: Timestamp, now: u64) -> u128
     u128::from(bytes) * u128::from(seconds_between(since.wall(), now))
 }
 
-/// Since when a version behind this newer one is garbage.
-pub(crate) fn dead_since(version: &VersionShape, newer: Option<Timestamp>) -> Option<Timestamp>
-    ensures { option_map time_of result ≡ dead_since (option_map time_of newer) [] (version_of version.now) }
-{
-    if version.deletion {
-        Some(version.ts)
-    } else {
-        newer
-    }
-}
-
 impl Tally {
     /// Counts bytes that are live, or garbage since a timestamp.
     pub(crate) fn count(&mut self, bytes: u64, dead: Option<Timestamp>, now: u64)
@@ -61,11 +52,12 @@ impl Tally {
         }
     }
 
-    /// The tally of versions, newest first.
-    pub(crate) fn of_versions(versions: &[VersionShape], now: u64) -> Tally
+    /// The tally of versions, newest first, under a stack of range tombstones, newest first.
+    pub(crate) fn of_versions(versions: &[VersionShape], stack: &[Timestamp], now: u64) -> Tally
         requires lengths { AllByRecursion (λ v. v.value_len ≤ 2 ^ 25) versions.now }
         requires versions { length versions.now ≤ 2 ^ 60 }
-        ensures value { Counts result (versions_sums now None [] (map version_of versions.now)) }
+        requires stack { IsStrictlySortedBy newer_first (map time_of stack.now) }
+        ensures value { Counts result (versions_sums now None (map time_of stack.now) (map version_of versions.now)) }
         ensures val_within { result.val_bytes ≤ 2 ^ 25 * length versions.now }
         ensures live_within { result.live_bytes ≤ 33554444 * length versions.now }
         ensures age_within { result.gc_bytes_age ≤ 2 ^ 60 * length versions.now }
@@ -78,7 +70,7 @@ impl Tally {
         let mut newer = None;
         for version in versions {
             tally.val_bytes += u128::from(version.value_len);
-            let dead = dead_since(version, newer);
+            let dead = dead_since(version, newer, stack);
             tally.count(TIMESTAMP_BYTES + version.value_len, dead, now);
             newer = Some(version.ts);
         }

@@ -1,5 +1,10 @@
-ghost use Rattle.std.specs.Prelude.{◌≡◌, ◌≤ℤ◌, ◌+ℤ◌, pos};
+#![tactic(auto, using(crate::proofs::GroupLaws::no_stack))]
+
+ghost use Rattle.std.specs.Prelude.{◌≡◌, ◌<◌, ◌≤ℤ◌, ◌+ℤ◌, map, pos};
+ghost use Rattle.std.specs.List.Sorted.{IsStrictlySortedBy};
 ghost use Rattle.mvcc_key.specs.Field as fields;
+ghost use Rattle.mvcc_key.specs.Order.{newer_first};
+ghost use Rattle.mvcc_key.specs.views.Seen.{time_of};
 ghost use Rattle.stat_core.specs.ComputeStats.{field};
 ghost use Rattle.stat_core.specs.views.Limits.{IsInLimits};
 ghost use Rattle.stat_core.specs.views.Seen.{number as fields_number, lent_shape_of};
@@ -103,6 +108,60 @@ fn a_key_adds_its_sums(rt: HostRuntime) -> Result<(), Fail> {
         ..one_live()
     };
     assert_eq!(rt; shape.stats(2 * SECOND), covered);
+    Ok(())
+}
+
+/// A stack of two timestamps, once it is seen to descend.
+fn stack_of(rt: &impl Abort, newer: u64, older: u64) -> [Timestamp; 2]
+    ensures { IsStrictlySortedBy newer_first (map time_of result) }
+{
+    let stack = [at(newer), at(older)];
+    assert!(rt; stack[1].compare(stack[0]).is_lt());
+    stack
+}
+
+/// What a key with values of 8 bytes at 3 and at 1 adds at 10, under tombstones at these two seconds.
+fn two_puts_under(rt: &impl Abort, newer: u64, older: u64) -> Group
+    requires newer { newer < 10 }
+    requires older { older < 10 }
+{
+    let puts = [version(3 * SECOND, 8), version(SECOND, 8)];
+    let stack = stack_of(rt, newer * SECOND, older * SECOND);
+    let shape = GroupRef {
+        key_len: 1,
+        record_len: 0,
+        intent: None,
+        versions: &puts,
+        stack: &stack,
+    };
+    shape.stats(10 * SECOND)
+}
+
+#[test]
+fn a_tombstone_ends_what_is_older(rt: HostRuntime) -> Result<(), Fail> {
+    let dead = Group {
+        key_count: 1,
+        key_bytes: 26,
+        val_count: 2,
+        val_bytes: 16,
+        gc_bytes_age: 270,
+        ..Group::zero()
+    };
+    assert_eq!(rt; two_puts_under(&rt, 5, 2), dead);
+
+    let since_the_lower = Group {
+        gc_bytes_age: 272,
+        ..dead
+    };
+    assert_eq!(rt; two_puts_under(&rt, 5, 4), since_the_lower);
+
+    let live = Group {
+        live_count: 1,
+        live_bytes: 22,
+        gc_bytes_age: 160,
+        ..dead
+    };
+    assert_eq!(rt; two_puts_under(&rt, 2, 1), live);
     Ok(())
 }
 
