@@ -84,7 +84,7 @@ header_length-cases t = by (is_no_time t)
     by false = inr refl
 
 -- a plain value is at most so long
-length-plain_bytes_le : (body : Body) → IsStoredBody body → length (plain_bytes body) ≤ 1048600
+pub length-plain_bytes_le : (body : Body) → IsStoredBody body → length (plain_bytes body) ≤ 1048600
 length-plain_bytes_le Deletion h = omega arith
 length-plain_bytes_le (Bytes bytes) h = omega arith
 length-plain_bytes_le (Int number) h = omega (arith, length-varint_le (zigzag number))

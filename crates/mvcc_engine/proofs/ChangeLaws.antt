@@ -14,8 +14,9 @@ use Rattle.mvcc_key.specs.Fragments.{fragments, stack_at}
 use Rattle.mvcc_key.specs.Field.{Field}
 use Rattle.stat_core.specs.DeadSince.{shape_of}
 use Rattle.stat_core.specs.ComputeStats.{no_sums, key_sums, key_shape, is_record, length_of, intent_time, pairs_of, compute_stats, difference}
-use Rattle.stat_core.proofs.KeyChangeLaws.{others_of, share, share-there, share-absent, difference-one_key, others_of-put}
-use Rattle.stat_core.proofs.NewVersionLaws.{HasNoRecord, difference-front_of_key}
+use Rattle.stat_core.specs.Laws.{others_of, share, HasNoRecord}
+use Rattle.stat_core.proofs.KeyChangeLaws.{share-there, share-absent, difference-one_key, others_of-put}
+use Rattle.stat_core.proofs.NewVersionLaws.{difference-front_of_key}
 use Rattle.mvcc_engine.specs.StoredPairs.{stored_pair, stored_pairs}
 use Rattle.mvcc_engine.specs.Step.{statistics}
 use Rattle.mvcc_engine.specs.views.Places.{AreVersions, IsPlace, is_of_lower_key, version_at, history_of}

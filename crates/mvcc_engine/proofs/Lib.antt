@@ -4,7 +4,6 @@ pub mod VersionLaws
 pub mod Search
 pub mod StoredLaws
 pub mod ChangeLaws
-pub mod GroupLaws
 pub mod RuleLaws
 pub mod KeptLaws
 pub mod PlanLaws

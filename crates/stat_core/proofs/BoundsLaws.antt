@@ -1,15 +1,15 @@
 -- Bounds that statistics keep, and what they say of overflow.
-use Rattle.std.specs.Prelude.{◌≡◌, ℕ, pos, ◌-ℤ◌, ◌<◌, ◌+◌, ◌≤◌, Bool, true, false, cond, List, [], ◌∷◌, length, filter, find, map, Option, Some, None, nat_lt}
+use Rattle.std.specs.Prelude.{◌≡◌, ℕ, ◌<◌, ◌+◌, ◌≤◌, Bool, true, false, cond, List, [], ◌∷◌, length, filter, find, map, Option, Some, None, nat_lt}
 use Rattle.std.specs.List.{AllByRecursion}
 use Rattle.std.proofs.Common.{refl, sym, ◌∙◌, ap, subst, arith}
 use Rattle.std.proofs.lemmas.Bool.Decides.{nat_tests}
-use Rattle.std.proofs.lemmas.Int.{ints}
 use Rattle.mvcc_key.specs.Order.{Timestamp, Key, is_within, Pair}
 use Rattle.mvcc_key.specs.Fragments.{Fragment, cut_to, stack_at}
 use Rattle.mvcc_key.specs.Field.{Field, KeyCount, KeyBytes, ValCount, ValBytes, LiveCount, LiveBytes, IntentCount, IntentBytes, IntentAge, GcBytesAge, RangeKeyCount, RangeKeyBytes, RangeValCount, RangeValBytes, all_fields}
 use Rattle.stat_core.specs.DeadSince.{VersionShape, dead_since}
-use Rattle.stat_core.specs.ComputeStats.{Sums, no_sums, ◌⊕◌, total, version_sums, versions_sums, KeyShape, own_sums, newest_dead, intent_sums, key_sums, tombstone_sums, fragment_sums, pairs_of, key_shape, keys_of, sums_at, sums_of_fragment, compute_stats, compute_span, field, difference, overflowing}
-use Rattle.stat_core.proofs.KeyChangeLaws.{field-⊕, others_of, share, compute_stats-split}
+use Rattle.stat_core.specs.ComputeStats.{Sums, no_sums, ◌⊕◌, total, version_sums, versions_sums, KeyShape, own_sums, newest_dead, intent_sums, key_sums, tombstone_sums, fragment_sums, pairs_of, key_shape, keys_of, sums_at, sums_of_fragment, compute_stats, compute_span, field, overflowing}
+use Rattle.stat_core.specs.Laws.{others_of, share, IsAtMost}
+use Rattle.stat_core.proofs.KeyChangeLaws.{field-⊕, compute_stats-split}
 
 -- live bytes are bytes of points, each live key and each intent is a key, and each fragment has a tombstone
 pub record AreInBounds (s : Sums) : Type 0 where
@@ -91,10 +91,6 @@ compute_span-bounds now start end pairs fs =
     (bounds-total (sums_at now pairs fs) (filter (is_within start end) (keys_of pairs)) (λ key. key_sums-bounds now (key_shape key (pairs_of key pairs) (stack_at fs key))))
     (bounds-total (sums_of_fragment now) (cut_to start end fs) (λ f. fragment_sums-bounds now (length f.start) (length f.end) f.stack))
 
--- each of the statistics of the first is at most that of the second
-abbrev pub IsAtMost : Sums → Sums → Type 0
-IsAtMost s t = (f : Field) → field f s ≤ field f t
-
 -- the first part is at most the whole
 pub first_part : (s t : Sums) → IsAtMost s (s ⊕ t)
 first_part s t f = rw (field-⊕ f s t) (omega arith)
@@ -107,12 +103,6 @@ second_part s t f = rw (field-⊕ f s t) (omega arith)
 pub share-part : (now : ℕ) (pairs : List Pair) (fs : List Fragment) (k : Key) → IsAtMost (share now pairs fs k) (compute_stats now pairs fs)
 share-part now pairs fs k f =
     subst (λ s. field f (share now pairs fs k) ≤ field f s) (sym (compute_stats-split now pairs fs k)) (first_part (share now pairs fs k) (compute_stats now (others_of k pairs) fs) f)
-
--- what the other keys' pairs add is at most the whole
-pub others-part : (now : ℕ) (pairs : List Pair) (fs : List Fragment) (k : Key) → IsAtMost (compute_stats now (others_of k pairs) fs) (compute_stats now pairs fs)
-others-part now pairs fs k f =
-    subst (λ s. field f (compute_stats now (others_of k pairs) fs) ≤ field f s) (sym (compute_stats-split now pairs fs k))
-    (second_part (share now pairs fs k) (compute_stats now (others_of k pairs) fs) f)
 
 find-none : {X : Type 0} (test : X → Bool) (xs : List X) → find test xs ≡ None → AllByRecursion (λ x. test x ≡ false) xs
 find-none test [] h = tt
@@ -203,15 +193,6 @@ fields-tell s t same = λ i. record {
   range_val_count = same RangeValCount i;
   range_val_bytes = same RangeValBytes i;
 }
-
--- and by their differences from others: what changes as a part changes is the whole with that part exchanged
-pub differences-tell : (before after less more : Sums) → ((f : Field) → difference before after f ≡ difference less more f) → after ⊕ less ≡ before ⊕ more
-differences-tell before after less more same =
-    fields-tell (after ⊕ less) (before ⊕ more)
-    (λ f. field-⊕ f after less ∙ by (field f before) (field f after) (field f less) (field f more) (same f) ∙ sym (field-⊕ f before more))
-  where
-    by : (b a l m : ℕ) → pos a -ℤ pos b ≡ pos m -ℤ pos l → a + l ≡ b + m
-    by b a l m h = omega (arith, ints)
 
 -- what is added to both may be left out
 pub ⊕_cancel : (s t more : Sums) → s ⊕ more ≡ t ⊕ more → s ≡ t

@@ -14,9 +14,11 @@ use Rattle.mvcc_key.specs.Fragments.{Fragment, stack_at}
 use Rattle.mvcc_key.specs.Field.{Field}
 use Rattle.mvcc_key.proofs.FragmentLaws.{same_key}
 use Rattle.mvcc_key.proofs.OrderLaws.{key_cmp-total}
+use Rattle.mvcc_key.proofs.StackLaws.{same_key_is}
 use Rattle.stat_core.specs.ComputeStats.{Sums, is_record, key_shape, key_sums, pairs_of, compute_stats, field, difference}
-use Rattle.stat_core.proofs.KeyChangeLaws.{same_key_is, others_of-put, field-⊕}
-use Rattle.stat_core.proofs.NewVersionLaws.{HasNoRecord, difference-front_of_key, compute_stats-first_pairs}
+use Rattle.stat_core.specs.Laws.{HasNoRecord}
+use Rattle.stat_core.proofs.KeyChangeLaws.{others_of-put, field-⊕}
+use Rattle.stat_core.proofs.NewVersionLaws.{difference-front_of_key, compute_stats-first_pairs}
 use Rattle.stat_core.proofs.SpanChangeLaws.{pairs_of-put}
 
 -- the first that passes a test passes it

@@ -14,9 +14,9 @@ use Rattle.stat_core.specs.declared.group.Group.{Group}
 use Rattle.stat_core.proofs.BoundsLaws.{compute_stats-bounds}
 use Rattle.stat_core.proofs.AgeingLaws.{compute_stats-ages}
 
--- numbers that are those of statistics are these statistics
-pub whole_sums-is : (numbers : Field → ℤ) (s : Sums) → ((f : Field) → numbers f ≡ pos (field f s)) → whole_sums numbers ≡ s
-whole_sums-is numbers s same = λ i. record {
+-- the same numbers are the same statistics
+pub whole_sums-same : (m n : Field → ℤ) → ((f : Field) → m f ≡ n f) → whole_sums m ≡ whole_sums n
+whole_sums-same m n same = λ i. record {
   key_count = whole (same KeyCount i);
   key_bytes = whole (same KeyBytes i);
   val_count = whole (same ValCount i);
@@ -32,6 +32,10 @@ whole_sums-is numbers s same = λ i. record {
   range_val_count = whole (same RangeValCount i);
   range_val_bytes = whole (same RangeValBytes i);
 }
+
+-- numbers that are those of statistics are these statistics
+whole_sums-is : (numbers : Field → ℤ) (s : Sums) → ((f : Field) → numbers f ≡ pos (field f s)) → whole_sums numbers ≡ s
+whole_sums-is numbers s same = whole_sums-same numbers (λ f. pos (field f s)) same
 
 -- where live bytes are among all, the numbers are those of the rule of ageing
 aged-number : (s : Running) (now : ℕ) (f : Field) → s.sums.live_bytes ≤ s.sums.key_bytes + s.sums.val_bytes

@@ -7,31 +7,13 @@ use Rattle.stat_core.specs.ComputeStats.{age, field, overflowing, no_sums}
 use Rattle.stat_core.specs.views.Counters.{number_at, moved_by, changed_number, moved_number, AreCounted, IsFirstAbove}
 use Rattle.stat_core.specs.Running.{Running, sums_of}
 use Rattle.stat_core.specs.views.Seen.{number}
-use Rattle.stat_core.specs.Settling.{gain, NoDebt, raised_number, lowered_number, aged_number, settled_number, whole, whole_sums, with_numbers, raised, lowered, aged_to, settled}
+use Rattle.stat_core.specs.Settling.{gain, NoDebt, raised_number, lowered_number, aged_number, settled_number, whole_sums, with_numbers, raised, lowered, aged_to, settled}
 use Rattle.stat_core.specs.declared.counters.Sign.{Sign}
 use Rattle.stat_core.specs.declared.counters.Sign.TheVariants.{Plus, Minus}
 use Rattle.stat_core.specs.declared.group.Group.{Group}
 use Rattle.stat_core.proofs.BoundsLaws.{no_overflow-from}
+use Rattle.stat_core.proofs.SettlingLaws.{whole_sums-same}
 use Rattle.stat_core.proofs.CounterLaws.{field-sums_of, counted-sums, counted-fits, overflowing-first}
-
--- the same numbers are the same statistics
-pub whole_sums-same : (m n : Field → ℤ) → ((f : Field) → m f ≡ n f) → whole_sums m ≡ whole_sums n
-whole_sums-same m n same = λ i. record {
-  key_count = whole (same KeyCount i);
-  key_bytes = whole (same KeyBytes i);
-  val_count = whole (same ValCount i);
-  val_bytes = whole (same ValBytes i);
-  live_count = whole (same LiveCount i);
-  live_bytes = whole (same LiveBytes i);
-  intent_count = whole (same IntentCount i);
-  intent_bytes = whole (same IntentBytes i);
-  intent_age = whole (same IntentAge i);
-  gc_bytes_age = whole (same GcBytesAge i);
-  range_key_count = whole (same RangeKeyCount i);
-  range_key_bytes = whole (same RangeKeyBytes i);
-  range_val_count = whole (same RangeValCount i);
-  range_val_bytes = whole (same RangeValBytes i);
-}
 
 -- of the same numbers none is negative
 pub NoDebt-same : (m n : Field → ℤ) → ((f : Field) → m f ≡ n f) → NoDebt n → NoDebt m

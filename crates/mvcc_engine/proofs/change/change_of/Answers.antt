@@ -1,5 +1,5 @@
 -- The difference of two small groups fits its type.
-use Rattle.mvcc_engine.proofs.GroupLaws.{difference-fits}
+use Rattle.stat_core.proofs.GroupLaws.{difference-fits}
 use Rattle.mvcc_engine.proofs.change.change_of.Goals as goal
 
 pub difference-requires : goal.difference-requires
