@@ -1,0 +1,10 @@
+pub mod Shapes
+pub mod Changes
+pub mod Laws
+pub mod KeyDelta
+pub mod SpanChanges
+pub mod SpanLaws
+pub mod Removals
+pub mod Dying
+pub mod SpanBounds
+pub mod SpanWalk
