@@ -22,12 +22,12 @@ use Rattle.stat_core.specs.views.Seen as shapes
 use Rattle.stat_core.specs.declared.shape.VersionShape.{VersionShape as Declared}
 use Rattle.mvcc_engine.specs.declared.plan.Planned.{Planned}
 use Rattle.mvcc_engine.specs.Write.{checked, past_newest, new_version, is_present, write}
-use Rattle.mvcc_engine.specs.Step.{State, Reply, statistics, settled, parts_after, parts_between, change}
+use Rattle.mvcc_engine.specs.Step.{State, Reply, statistics, settled, parts_after, change}
 use Rattle.mvcc_engine.specs.views.Places.{AreVersions, IsPlace, is_of_lower_key, version_at, newest_version, in_the_way, history_of}
 use Rattle.mvcc_engine.specs.views.Stored.{Held, IsShort}
 use Rattle.mvcc_engine.specs.views.Change.{shape, change_by, change_by_shapes}
 use Rattle.mvcc_engine.specs.views.Kept.{IsKept, IsCounted}
-use Rattle.mvcc_engine.specs.views.Plan.{IsPlanned, state_after}
+use Rattle.mvcc_engine.specs.views.Plan.{IsPlanned}
 use Rattle.mvcc_engine.specs.views.Seen.{Tells}
 use Rattle.mvcc_engine.proofs.RuleLaws.{newest-item, past-free, past-older, past-stopped, change-in_the_way, change-free, settled-over, settled-within}
 use Rattle.mvcc_engine.proofs.KeptLaws.{counted-put, settled-is, settled-no_debt}

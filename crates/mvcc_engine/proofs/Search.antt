@@ -1,16 +1,16 @@
 -- Tests that what stands before passes too.
-use Rattle.std.specs.Prelude.{◌≡◌, ◌≢◌, ℕ, ◌<◌, ◌≤◌, Bool, true, false, List, [], ◌∷◌, length, take, drop, IfSome}
-use Rattle.std.specs.List.{AllByRecursion, AllWithin}
-use Rattle.std.specs.List.Sorted.{IsStrictlySortedBy, IsPartitionedBy, IsPartitionPoint}
+use Rattle.std.specs.Prelude.{◌≡◌, ◌≢◌, Bool, true, false, List, [], ◌∷◌}
+use Rattle.std.specs.List.{AllByRecursion}
+use Rattle.std.specs.List.Sorted.{IsStrictlySortedBy}
 use Rattle.std.specs.declared.cmp.Ordering.TheVariants.{Less, Equal, Greater}
 use Rattle.std.specs.declared.cmp.Ordering.{Ordering}
 use Rattle.std.specs.Ordering.{is_lt, match_ordering}
-use Rattle.std.proofs.Common.{zero, suc, refl, sym, ◌∙◌, subst, arith, get_or}
+use Rattle.std.proofs.Common.{refl, sym, ◌∙◌, subst}
 use Rattle.mvcc_key.specs.Lists.{first}
 use Rattle.mvcc_key.specs.Order.{Timestamp, Key, time_cmp, key_cmp, is_before, is_no_time}
 use Rattle.mvcc_key.specs.History.{Version, version_cmp}
 use Rattle.mvcc_key.proofs.OrderLaws.{time_cmp-total, key_cmp-total, key_cmp-IsAntisymmetric}
-use Rattle.mvcc_engine.specs.views.Places.{IsPlace, is_ahead, is_of_lower_key}
+use Rattle.mvcc_engine.specs.views.Places.{is_ahead, is_of_lower_key}
 use Rattle.mvcc_engine.proofs.VersionLaws.{version_cmp-of_one}
 
 -- what passes a test at one element passes it at those before

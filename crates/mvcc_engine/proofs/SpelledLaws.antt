@@ -12,7 +12,7 @@ use Rattle.stat_core.specs.DeadSince.{is_deletion_value, shape_of}
 use Rattle.mvcc_value.proofs.ValueLaws.{value_of-value_bytes}
 use Rattle.mvcc_engine.specs.views.Spelled.{IsSpelled, IsSpelledAt, body_in, spelled_body}
 use Rattle.mvcc_engine.specs.StoredPairs.{stored_value}
-use Rattle.mvcc_engine.specs.views.Stored.{version_of, point_of}
+use Rattle.mvcc_engine.specs.views.Stored.{version_of}
 use Rattle.mvcc_engine.specs.views.Change.{shape}
 use Rattle.mvcc_engine.specs.Write.{new_version}
 

@@ -14,7 +14,7 @@ use Rattle.mvcc_key.specs.KeyFormat.{KeyFault, encoded_name, name_of}
 use Rattle.mvcc_key.specs.Points.{Point, AreEncodable, point_cmp, point_at, key_at, value_at, is_below_name, count_below}
 use Rattle.mvcc_key.proofs.OrderLaws.{key_cmp-IsAntisymmetric}
 use Rattle.mvcc_key.proofs.KeyFormatLaws.{name_of-encoded_name}
-use Rattle.mvcc_key.proofs.PointLaws.{point_cmp-total, point_at-next}
+use Rattle.mvcc_key.proofs.PointLaws.{point_at-next}
 use Rattle.merge_cursor.proofs.HeadLaws.{in_range-at}
 use Rattle.mvcc_key.specs.History.{Version, version_cmp}
 use Rattle.mvcc_key.proofs.SortedLaws.{in_order-same}

@@ -1,21 +1,18 @@
 -- What stands where among versions in the order of stored pairs.
-use Rattle.std.specs.Prelude.{◌≡◌, ℕ, Bool, true, false, List, [], ◌∷◌, ◌++◌, take, drop, map, filter, cond, Some, None, IfSome}
+use Rattle.std.specs.Prelude.{◌≡◌, ℕ, Bool, true, false, List, [], ◌∷◌, ◌++◌, take, drop, map, filter, cond, Some, IfSome}
 use Rattle.std.specs.List.{AllByRecursion}
 use Rattle.std.specs.List.Sorted.{IsStrictlySortedBy}
 use Rattle.std.specs.Option.{option_map}
 use Rattle.std.specs.declared.cmp.Ordering.{Ordering}
 use Rattle.std.specs.declared.cmp.Ordering.TheVariants.{Less, Equal, Greater}
 use Rattle.std.specs.Ordering.{is_lt, is_le, is_eq, ordering_reverse, match_ordering}
-use Rattle.std.specs.Cmp.{IsTotalOrder}
-use Rattle.std.proofs.Common.{zero, suc, refl, sym, ap, ◌∙◌, subst, arith, append-nil, take-append-drop}
+use Rattle.std.proofs.Common.{zero, suc, refl, sym, ap, ◌∙◌, subst, append-nil, take-append-drop}
 use Rattle.std.proofs.lemmas.Map.Text.{is_eq-slice_cmp}
-use Rattle.std.proofs.lemmas.Cmp.{on_total}
-use Rattle.std.proofs.lemmas.Bool.Decides.{nat_tests}
 use Rattle.mvcc_key.specs.Lists.{put_in_order, in_order, first}
 use Rattle.mvcc_key.specs.Order.{Timestamp, Key, time_cmp, key_cmp, newer_first, is_before, is_up_to, is_same_key, is_no_time}
-use Rattle.mvcc_key.specs.History.{Version, version_cmp, version_name}
+use Rattle.mvcc_key.specs.History.{Version, version_cmp}
 use Rattle.mvcc_key.specs.Items.{Item, items, version_item, item_cmp, newest, newest_at}
-use Rattle.mvcc_key.proofs.OrderLaws.{not_up_to-before, time_cmp-total, key_cmp-total, key_cmp-IsAntisymmetric, name_cmp-total}
+use Rattle.mvcc_key.proofs.OrderLaws.{not_up_to-before, time_cmp-total, key_cmp-total, key_cmp-IsAntisymmetric}
 use Rattle.mvcc_key.proofs.SortedLaws.{IsBelowAll, in_order-same}
 use Rattle.mvcc_engine.specs.views.Places.{AreVersions, IsPlace, is_ahead, is_of_lower_key, version_at, history_of}
 
