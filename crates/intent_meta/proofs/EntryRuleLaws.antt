@@ -70,21 +70,6 @@ AreRecordEntries-append before limit (x ∷ xs) e earlier h own =
         by None p = ltb-true _ _ p
         by (Some a) p = ltb-true _ _ (and_parts (ltb a n) (ltb n e.sequence) p).1
 
--- the other way round: the entries before the last rise below its sequence
-pub AreRecordEntries-before_last : (before : Option ℕ) (limit : ℕ) (es : List (Entry (List ℕ))) (e : Entry (List ℕ)) → AreRecordEntries before limit (es ++ e ∷ [])
-    → AreRecordEntries before e.sequence es × IsEarlier before e.sequence
-AreRecordEntries-before_last before limit [] e h = (tt, earlier_of before limit e.sequence h.0.placed)
-AreRecordEntries-before_last before limit (x ∷ xs) e h =
-    let rest = AreRecordEntries-before_last (Some x.sequence) limit xs e h.1 in
-    let first = earlier_of before limit x.sequence h.0.placed in (
-      (record { sequence = h.0.sequence; placed = next_from before e.sequence x.sequence first rest.1; size = h.0.size; value = h.0.value }, rest.0),
-      earlier_trans before first rest.1,
-    )
-  where
-    earlier_trans : (b : Option ℕ) → IsEarlier b x.sequence → x.sequence < e.sequence → IsEarlier b e.sequence
-    earlier_trans None p q = tt
-    earlier_trans (Some a) p q = omega arith
-
 -- what holds of the entries holds where there are any
 pub IfSome-some_entries : (P : List (Entry (List ℕ)) → Type 0) (es : List (Entry (List ℕ))) → P es → IfSome (some_entries es) P
 IfSome-some_entries P [] h = tt

@@ -10,7 +10,7 @@ use Rattle.mvcc_key.proofs.KeyFormatLaws.{in_range}
 use Rattle.intent_meta.specs.declared.fault.IntentFault.{IntentFault}
 use Rattle.intent_meta.specs.Record.{IntentRecord, flag_byte, entry_bytes, record_bytes, record_of}
 use Rattle.intent_meta.specs.Rules.{AreRecordEntries, IsRecordOf}
-use Rattle.intent_meta.specs.Entries.{IsWhole, AreEntries}
+use Rattle.intent_meta.specs.Entries.{IsWhole, AreBytesOf}
 use Rattle.intent_meta.specs.views.Seen.{known_record, record_in}
 use Rattle.intent_meta.proofs.RecordLaws.{IsRecordOf-record_of}
 
@@ -63,7 +63,8 @@ pub record HasFields (bytes : List ℕ) (r : IntentRecord) : Type 0 where
   pub wall : from_be_bytes w64 (take 8 (drop 24 bytes)) ≡ r.ts.wall
   pub logical : from_be_bytes w32 (take 4 (drop 32 bytes)) ≡ r.ts.logical
   pub deleted : get_or bytes 36 0 ≡ flag_byte r.deleted
-  pub entries : AreEntries (drop 45 bytes) r.history
+  pub value_length : from_be_bytes w32 (take 4 (drop 37 bytes)) ≡ r.value_length
+  pub entries : AreBytesOf (drop 45 bytes) r.history
 
 -- bytes of a record have its fields
 pub HasFields-record_bytes : (bytes : List ℕ) (r : IntentRecord) → IsRecordOf bytes r → HasFields bytes r
@@ -95,18 +96,11 @@ HasFields-record_bytes bytes r of =
       wall = ap (from_be_bytes w64) l3.here ∙ wide64.again r.ts.wall (omega arith);
       logical = ap (from_be_bytes w32) l4.here ∙ wide32.again r.ts.logical (omega arith);
       deleted = sym (get_or-drop 36 bytes 0 0) ∙ ap (λ (xs : List ℕ). get_or xs 0 0) l4.behind;
+      value_length = ap (λ (xs : List ℕ). from_be_bytes w32 (take 4 xs)) (sym (drop-drop 1 36 bytes) ∙ ap (drop 1) l4.behind)
+          ∙ wide32.again r.value_length rules.value_size;
       entries = record { bytes_are = l6.behind; whole = AreWhole-entries None r.sequence r.history rules.entries };
     }
 
 -- bytes that are read as a record have its fields
 pub HasFields-record_in : (bytes : List ℕ) → IsBytes bytes → is_ok (record_of bytes) ≡ true → HasFields bytes (record_in bytes)
 HasFields-record_in bytes fits ok = HasFields-record_bytes bytes (record_in bytes) (IsRecordOf-record_in bytes fits ok)
-
--- the timestamp whose numbers are read there is the record's
-pub time-read : (bytes : List ℕ) (r : IntentRecord) → HasFields bytes r → (wall logical : ℕ) (from_wall from_logical : List ℕ)
-    → from_wall ≡ drop 24 bytes → wall ≡ from_be_bytes w64 (take 8 from_wall) → from_logical ≡ drop 32 bytes → logical ≡ from_be_bytes w32 (take 4 from_logical)
-    → record { wall = wall; logical = logical } ≡ r.ts
-time-read bytes r fields wall logical from_wall from_logical wall_at wall_is logical_at logical_is =
-    let same_wall : wall ≡ r.ts.wall = wall_is ∙ ap (λ (xs : List ℕ). from_be_bytes w64 (take 8 xs)) wall_at ∙ fields.wall in
-    let same_logical : logical ≡ r.ts.logical = logical_is ∙ ap (λ (xs : List ℕ). from_be_bytes w32 (take 4 xs)) logical_at ∙ fields.logical in
-    λ i. record { wall = same_wall i; logical = same_logical i }

@@ -1,6 +1,7 @@
 pub mod RecordLaws
 pub mod EntryValueLaws
 pub mod FieldLaws
+pub mod RecordTimeLaws
 pub mod WalkLaws
 pub mod Examples
 pub mod EncodingLaws
@@ -23,3 +24,7 @@ pub mod PairChangeLaws
 pub mod KeyPairsLaws
 pub mod ChangesOnlyLaws
 pub mod KeyChangeLaws
+pub mod LentLaws
+pub mod ListedLaws
+pub mod KeyHistoryLaws
+pub mod WholeKeyLaws

@@ -1,65 +1,43 @@
 -- What is stored for a version, and for an intent, is read back as it was.
-use Rattle.std.proofs.Common.{◌≡◌, ℕ, ◌^◌, ◌<◌, ◌≤◌, Bool, true, false, cond, eqb, leb, List, [], ◌∷◌, ◌++◌, length, Option, Some, None, Result, Ok, refl, sym, ap, subst, ◌∙◌, ◌⊎◌, inl, inr, arith}
-use Rattle.std.specs.Prelude.{◌&&◌, ◌||◌, not, map, is_ok, unwrap_or}
+use Rattle.std.proofs.Common.{◌≡◌, ℕ, ◌^◌, ◌<◌, ◌≤◌, Bool, true, false, cond, List, [], ◌∷◌, ◌++◌, length, Option, Some, None, Result, Ok, refl, sym, ap, subst, ◌∙◌, ◌⊎◌, inl, inr, arith}
+use Rattle.std.specs.Prelude.{not, map, is_ok, unwrap_or}
 use Rattle.std.specs.List.{AllByRecursion, flat_map, cons_option}
 use Rattle.std.specs.List.Sorted.{IsStrictlySortedBy}
 use Rattle.std.specs.Option.{option_map}
 use Rattle.std.specs.declared.cmp.Ordering.TheVariants.{Less}
 use Rattle.std.specs.Ordering.{nat_cmp}
-use Rattle.std.proofs.lemmas.Bool.{and_parts, and_from, lt-ltb, le-leb, eqb-true, not-true}
+use Rattle.std.proofs.lemmas.Bool.{and_parts, and_from, lt-ltb, not-true}
 use Rattle.std.proofs.lemmas.List.{length-append}
 use Rattle.mvcc_key.specs.Lists.{last, before_last}
-use Rattle.mvcc_key.specs.Order.{Timestamp, no_time, is_no_time, is_in_range, is_before, Pair, pair_cmp}
+use Rattle.mvcc_key.specs.Order.{Timestamp, is_no_time, is_in_range, Pair, pair_cmp}
 use Rattle.mvcc_key.specs.Limits.{max_count}
-use Rattle.mvcc_key.specs.History.{Body, Deletion, Bytes, Int, is_deletion, Version, Entry, Intent, History, kept_local}
+use Rattle.mvcc_key.specs.History.{Body, Deletion, Bytes, Int, Version, Entry, Intent, History, kept_local}
 use Rattle.mvcc_key.specs.Fragments.{fragments, tombstones_of}
 use Rattle.mvcc_key.proofs.SortedLaws.{in_order-sorted}
 use Rattle.mvcc_key.proofs.EachLaws.{All-in_order, All-append, All-map, All-weaker, All-split}
-use Rattle.mvcc_value.specs.Encoding.{zigzag, varint, plain_bytes, header, header_of, value_bytes, body_of, IsEncodable}
-use Rattle.mvcc_value.proofs.ValueLaws.{body_of-plain_bytes, kept_local_kept, value_of-value_bytes}
+use Rattle.mvcc_value.specs.Encoding.{zigzag, plain_bytes, header_of, value_bytes, body_of, IsEncodable}
+use Rattle.mvcc_value.proofs.ValueLaws.{body_of-plain_bytes, value_of-value_bytes}
 use Rattle.mvcc_value.proofs.VarintLaws.{length-varint_le}
+use Rattle.mvcc_value.proofs.LengthLaws.{header_length-cases, is_value_length-value_bytes}
 use Rattle.intent_meta.specs.declared.fault.IntentFault.{IntentFault}
-use Rattle.intent_meta.specs.Record.{IntentRecord, is_value_length, is_next_sequence}
+use Rattle.intent_meta.specs.Record.{IntentRecord, is_next_sequence}
 use Rattle.intent_meta.specs.Rules.{IsRecordEntry, AreRecordEntries, IsRecord}
 use Rattle.intent_meta.specs.StoredPairs.{stored, stored_pairs, stored_cmp, provisional_body, provisional_sequence, provisional, plain_entry, intent_record, Stored, RecordOf, VersionOf, stored_pair}
 use Rattle.intent_meta.specs.HistoryOf.{known_body, entry_body, version_from, intent_from, version_read, versions_in, intent_before, intents_in, history_of}
 use Rattle.intent_meta.specs.Valid.{IsStoredTime, IsValid, IsKeptLocal, IsStoredBody, IsStoredVersion, IsStoredEntry, sequence_cmp, IsStoredIntent}
 use Rattle.intent_meta.proofs.RecordLaws.{record_of-record_bytes}
 use Rattle.intent_meta.specs.ReadBack.{StoredIsReadBack, StoredPairsRise}
+use Rattle.intent_meta.proofs.StoredTimeLaws.{IsLocal-stored}
 use Rattle.intent_meta.proofs.StoredLaws.{Block, OfIntent, OfVersion, block_cmp, blocks, expand, versions_among, intents_among, versions_among-blocks, intents_among-blocks, stored_cmp-total}
 use Rattle.intent_meta.proofs.BlockLaws.{IsAbove, versions_placed, stored_of-blocks}
 
 -- ---- values
 
 -- a body that may be stored has bytes
-IsEncodable-stored : (body : Body) → IsStoredBody body → IsEncodable body
+pub IsEncodable-stored : (body : Body) → IsStoredBody body → IsEncodable body
 IsEncodable-stored Deletion h = tt
 IsEncodable-stored (Bytes bytes) h = tt
 IsEncodable-stored (Int number) h = h
-
--- no timestamp is that of zero
-no_time-is : (t : Timestamp) → is_no_time t ≡ true → no_time ≡ t
-no_time-is t h =
-    let parts = and_parts (eqb t.wall 0) (eqb t.logical 0) h in
-    let wall : t.wall ≡ 0 = eqb-true _ _ parts.0 in
-    let logical : t.logical ≡ 0 = eqb-true _ _ parts.1 in
-    λ i. record { wall = sym wall i; logical = sym logical i }
-
--- a local timestamp that may be stored
-record IsLocal (local ts : Timestamp) : Type 0 where
-  range : is_in_range local ≡ true
-  kept : kept_local local ts ≡ local
-
-IsLocal-stored : (local ts : Timestamp) → IsKeptLocal local ts → IsLocal local ts
-IsLocal-stored local ts h = by (is_no_time local) refl h
-  where
-    by : (b : Bool) → is_no_time local ≡ b → (b || (is_in_range local && is_before local ts)) ≡ true → IsLocal local ts
-    by true e h =
-        let none : no_time ≡ local = no_time-is local e in
-        record { range = subst (λ (t : Timestamp). is_in_range t ≡ true) none refl; kept = rw e none }
-    by false e h =
-        let parts = and_parts (is_in_range local) (is_before local ts) h in
-        record { range = parts.0; kept = kept_local_kept local ts e parts.1 }
 
 -- the value of a version that may be stored is read back
 version_from-stored : (v : Version) → IsKeptLocal v.local v.ts → IsStoredBody v.body → version_read (stored_pair (VersionOf v)) ≡ Some v
@@ -71,17 +49,6 @@ version_from-stored v local body =
     )
 
 -- ---- lengths of values
-
--- a header has seventeen bytes, or there is none
-header_length-cases : (t : Timestamp) → (length (header_of t) ≡ 0) ⊎ (length (header_of t) ≡ 17)
-header_length-cases t = by (is_no_time t)
-  where
-    none : List ℕ
-    none = []
-
-    by : (b : Bool) → (length (cond b none (header t)) ≡ 0) ⊎ (length (cond b none (header t)) ≡ 17)
-    by true = inl refl
-    by false = inr refl
 
 -- a plain value is at most so long
 pub length-plain_bytes_le : (body : Body) → IsStoredBody body → length (plain_bytes body) ≤ 1048600
@@ -97,25 +64,6 @@ length-value_bytes_le body local ts h = by (header_length-cases (kept_local loca
     by : (length (header_of (kept_local local ts)) ≡ 0) ⊎ (length (header_of (kept_local local ts)) ≡ 17) → length (header_of (kept_local local ts) ++ plain_bytes body) < 2 ^ 32
     by (inl none) = omega (arith, length-append (header_of (kept_local local ts)) (plain_bytes body), length-plain_bytes_le body h, none)
     by (inr some) = omega (arith, length-append (header_of (kept_local local ts)) (plain_bytes body), length-plain_bytes_le body h, some)
-
--- a value that is no deletion has at least the bytes of a plain value
-five_or_more : (front behind : List ℕ) (a b c d tag : ℕ) → leb 5 (length (front ++ a ∷ b ∷ c ∷ d ∷ tag ∷ behind)) ≡ true
-five_or_more front behind a b c d tag = le-leb _ _ (omega (arith, length-append front (a ∷ b ∷ c ∷ d ∷ tag ∷ behind)))
-
--- the length of a value that is stored is one
-is_value_length-stored : (body : Body) (local ts : Timestamp) → is_value_length (is_deletion body) (length (value_bytes body local ts)) ≡ true
-unfolding value_bytes
-is_value_length-stored Deletion local ts = by (header_length-cases (kept_local local ts))
-  where
-    by : (length (header_of (kept_local local ts)) ≡ 0) ⊎ (length (header_of (kept_local local ts)) ≡ 17) → is_value_length true (length (header_of (kept_local local ts) ++ [])) ≡ true
-    by (inl none) =
-        let n : length (header_of (kept_local local ts) ++ []) ≡ 0 = omega (arith, length-append (header_of (kept_local local ts)) [], none) in
-        ap (is_value_length true) n
-    by (inr some) =
-        let n : length (header_of (kept_local local ts) ++ []) ≡ 17 = omega (arith, length-append (header_of (kept_local local ts)) [], some) in
-        ap (is_value_length true) n
-is_value_length-stored (Bytes bytes) local ts = five_or_more (header_of (kept_local local ts)) bytes 0 0 0 0 3
-is_value_length-stored (Int number) local ts = five_or_more (header_of (kept_local local ts)) (varint (zigzag number)) 0 0 0 0 1
 
 -- ---- entries
 
@@ -214,7 +162,7 @@ IsRecord-intent h i stored =
       epoch = stored.epoch;
       sequence = subst (λ (n : ℕ). n ≤ max_count) (sym l.sequence) (l.stored).sequence;
       ts = record { some = stored_timed i.ts stored.ts; range = (and_parts (not (is_no_time i.ts)) (is_in_range i.ts) stored.ts).1 };
-      value_length = is_value_length-stored (provisional_body i) i.local i.ts;
+      value_length = is_value_length-value_bytes (provisional_body i) i.local i.ts;
       value_size = length-value_bytes_le (provisional_body i) i.local i.ts (body_stored i l);
       entries = subst (λ (n : ℕ). AreRecordEntries None n (map plain_entry (before_last i.entries))) (sym l.sequence) l.entries;
     }

@@ -154,7 +154,7 @@ pub below_key : (a b : Key) (s t : Timestamp) → key_cmp a b ≡ Less → name_
 below_key a b s t h = rw h refl
 
 -- a record stands before the versions of its key
-record_before : (key : Key) (ts : Timestamp) → is_no_time ts ≡ false → name_cmp (record { key = key; ts = no_time }) (record { key = key; ts = ts }) ≡ Less
+pub record_before : (key : Key) (ts : Timestamp) → is_no_time ts ≡ false → name_cmp (record { key = key; ts = no_time }) (record { key = key; ts = ts }) ≡ Less
 record_before key ts timed = let same : key_cmp key key ≡ Equal = tied_itself key_cmp-total key in rw (same, timed) refl
 
 -- the key of a block

@@ -1,10 +1,10 @@
 -- Timestamps that may be stored.
-use Rattle.std.proofs.Common.{◌≡◌, Bool, true, false, refl, sym, subst, inl, inr}
-use Rattle.std.proofs.lemmas.Bool.{and_from, and_parts}
+use Rattle.std.proofs.Common.{◌≡◌, Bool, true, false, eqb, refl, sym, subst, inl, inr}
+use Rattle.std.proofs.lemmas.Bool.{and_from, and_parts, eqb-true}
 use Rattle.std.specs.Prelude.{not, ◌&&◌, ◌||◌, if◌then◌else◌}
-use Rattle.mvcc_key.specs.Order.{Timestamp, is_in_range, is_before, is_no_time, later}
+use Rattle.mvcc_key.specs.Order.{Timestamp, no_time, is_in_range, is_before, is_no_time, later}
 use Rattle.mvcc_key.specs.History.{kept_local}
-use Rattle.mvcc_value.proofs.ValueLaws.{kept_local-cases}
+use Rattle.mvcc_value.proofs.ValueLaws.{kept_local-cases, kept_local_kept}
 use Rattle.intent_meta.specs.Valid.{IsStoredTime, IsKeptLocal}
 
 -- a time that may be stored is in range
@@ -34,3 +34,27 @@ kept_local-kept local ts fits =
     by : (a b c : Bool) → b ≡ true → c ≡ true → (a || (b && c)) ≡ true
     by true b c p q = refl
     by false b c p q = and_from b c p q
+
+-- no timestamp is that of zero
+pub no_time-is : (t : Timestamp) → is_no_time t ≡ true → no_time ≡ t
+no_time-is t h =
+    let parts = and_parts (eqb t.wall 0) (eqb t.logical 0) h in
+    let wall : t.wall ≡ 0 = eqb-true _ _ parts.0 in
+    let logical : t.logical ≡ 0 = eqb-true _ _ parts.1 in
+    λ i. record { wall = sym wall i; logical = sym logical i }
+
+-- a local timestamp that may be stored
+pub record IsLocal (local ts : Timestamp) : Type 0 where
+  pub range : is_in_range local ≡ true
+  pub kept : kept_local local ts ≡ local
+
+pub IsLocal-stored : (local ts : Timestamp) → IsKeptLocal local ts → IsLocal local ts
+IsLocal-stored local ts h = by (is_no_time local) refl h
+  where
+    by : (b : Bool) → is_no_time local ≡ b → (b || (is_in_range local && is_before local ts)) ≡ true → IsLocal local ts
+    by true e h =
+        let none : no_time ≡ local = no_time-is local e in
+        record { range = subst (λ (t : Timestamp). is_in_range t ≡ true) none refl; kept = rw e none }
+    by false e h =
+        let parts = and_parts (is_in_range local) (is_before local ts) h in
+        record { range = parts.0; kept = kept_local_kept local ts e parts.1 }

@@ -17,7 +17,8 @@ use Rattle.mvcc_key.specs.views.Seen.{range_of}
 use Rattle.mvcc_key.specs.declared.span.SeqRange as Ranges
 use Rattle.intent_meta.specs.Record.{entry_bytes}
 use Rattle.intent_meta.specs.views.Seen.{is_ignored_by}
-use Rattle.intent_meta.specs.Entries.{entry_in, IsWhole, AreEntries}
+use Rattle.intent_meta.specs.Entries.{entry_in, IsWhole, AreBytesOf}
+use Rattle.intent_meta.proofs.LentLaws.{last-append}
 
 -- a test of mapped elements
 pub list_any-map : {X Y : Type 0} (f : X → Y) (test : Y → Bool) (xs : List X) → list_any test (map f xs) ≡ list_any (λ x. test (f x)) xs
@@ -38,8 +39,8 @@ bytes_shorter n bytes x e =
     omega (arith, ap (λ (y : List ℕ × List ℕ). length y.1) g.1, length-drop n bytes)
 
 -- so does an entry
-pub entry_shorter : (bytes : List ℕ) (x : Entry (List ℕ) × List ℕ) → entry_in bytes ≡ Ok x → length x.1 < length bytes
-entry_shorter bytes x e =
+pub entry-shorter : (bytes : List ℕ) (x : Entry (List ℕ) × List ℕ) → entry_in bytes ≡ Ok x → length x.1 < length bytes
+entry-shorter bytes x e =
     let a = bind_ok (number_at Short w32 bytes) _ x e in
     let b = bind_ok (number_at Short w32 a.0.1) _ x a.2 in
     let c = bind_ok (bytes_at Short b.0.0 b.0.1) _ x b.2 in
@@ -65,18 +66,18 @@ is_ignored-range_of ranges sequence = list_any-map range_of (λ r. leb r.first s
 -- the entries that are left
 pub record Left (bytes : List ℕ) (P : List (Entry (List ℕ)) → Type 0) : Type 0 where
   pub entries : List (Entry (List ℕ))
-  pub are : AreEntries bytes entries
+  pub are : AreBytesOf bytes entries
   pub so_far : P entries
 
 -- the first of the entries that are left, and those behind it
 pub record Split (bytes : List ℕ) (es : List (Entry (List ℕ))) (e : Entry (List ℕ)) (rest : List ℕ) : Type 0 where
   pub others : List (Entry (List ℕ))
   pub es_are : es ≡ e ∷ others
-  pub are : AreEntries rest others
+  pub are : AreBytesOf rest others
 
 -- what is read at the front is the first of the entries
-pub split : (bytes : List ℕ) (es : List (Entry (List ℕ))) (e : Entry (List ℕ)) (rest : List ℕ) → AreEntries bytes es → entry_in bytes ≡ Ok (e, rest) → Split bytes es e rest
-split bytes [] e rest are read = let shorter = entry_shorter bytes (e, rest) read in absurd (omega (arith, ap length are.bytes_are))
+pub split : (bytes : List ℕ) (es : List (Entry (List ℕ))) (e : Entry (List ℕ)) (rest : List ℕ) → AreBytesOf bytes es → entry_in bytes ≡ Ok (e, rest) → Split bytes es e rest
+split bytes [] e rest are read = let shorter = entry-shorter bytes (e, rest) read in absurd (omega (arith, ap length are.bytes_are))
 split bytes (f ∷ fs) e rest are read =
     let again : entry_in bytes ≡ Ok (f, flat_map entry_bytes fs) = ap entry_in are.bytes_are ∙ entry_in-entry_bytes f (flat_map entry_bytes fs) are.whole.0 in
     let same : (f, flat_map entry_bytes fs) ≡ (e, rest) = ok_is {E = IntentFault} (f, flat_map entry_bytes fs) (e, rest) (sym again ∙ read) in
@@ -85,7 +86,7 @@ split bytes (f ∷ fs) e rest are read =
     record { others = fs; es_are = ap (λ (x : Entry (List ℕ)). x ∷ fs) first; are = record { bytes_are = sym behind; whole = are.whole.1 } }
 
 -- where no entry is read none is left
-pub none_left : (bytes : List ℕ) (es : List (Entry (List ℕ))) (fault : IntentFault) → AreEntries bytes es → entry_in bytes ≡ Err fault → es ≡ []
+pub none_left : (bytes : List ℕ) (es : List (Entry (List ℕ))) (fault : IntentFault) → AreBytesOf bytes es → entry_in bytes ≡ Err fault → es ≡ []
 none_left bytes [] fault are read = refl
 none_left bytes (f ∷ fs) fault are read =
     let again : entry_in bytes ≡ Ok (f, flat_map entry_bytes fs) = ap entry_in are.bytes_are ∙ entry_in-entry_bytes f (flat_map entry_bytes fs) are.whole.0 in
@@ -155,7 +156,7 @@ module _ (sequence : ℕ) (ranges : List Ranges.SeqRange) (bytes : List ℕ) whe
   -- what was found, and the entries that are left, show what all entries show
   abbrev pub StillSeen : List ℕ → Option (List ℕ) → Type 0
   StillSeen rest found =
-      (es : List (Entry (List ℕ))) → AreEntries bytes es
+      (es : List (Entry (List ℕ))) → AreBytesOf bytes es
       → Left rest (λ left. option_map (λ e. e.value) (entry_at sequence (map range_of ranges) es) ≡ seen_or (entry_at sequence (map range_of ranges) left) found)
 
   -- at the front nothing is found
@@ -194,7 +195,7 @@ module _ (sequence : ℕ) (ranges : List Ranges.SeqRange) (bytes : List ℕ) whe
 
   -- where no entry is left, what was found is what all show
   pub StillSeen-end : (rest : List ℕ) (found : Option (List ℕ)) (fault : IntentFault) → StillSeen rest found → entry_in rest ≡ Err fault
-      → (es : List (Entry (List ℕ))) → AreEntries bytes es → found ≡ option_map (λ e. e.value) (entry_at sequence (map range_of ranges) es)
+      → (es : List (Entry (List ℕ))) → AreBytesOf bytes es → found ≡ option_map (λ e. e.value) (entry_at sequence (map range_of ranges) es)
   StillSeen-end rest found fault still read es are =
       let left = still es are in
       sym (left.so_far ∙ ap (λ (xs : List (Entry (List ℕ))). seen_or (entry_at sequence (map range_of ranges) xs) found) (none_left rest left.entries fault left.are read))
@@ -203,7 +204,7 @@ module _ (ranges : List Ranges.SeqRange) (bytes : List ℕ) where
   -- what was kept, and the entries that are left, are what is kept of all
   abbrev pub StillKept : List ℕ → List (Entry (List ℕ)) → Type 0
   StillKept rest kept =
-      (es : List (Entry (List ℕ))) → AreEntries bytes es
+      (es : List (Entry (List ℕ))) → AreBytesOf bytes es
       → Left rest (λ left. without_ignored (map range_of ranges) es ≡ kept ++ without_ignored (map range_of ranges) left)
 
   -- at the front nothing is kept
@@ -248,18 +249,12 @@ module _ (ranges : List Ranges.SeqRange) (bytes : List ℕ) where
 
   -- where no entry is left, what was kept is all
   pub StillKept-end : (rest : List ℕ) (kept : List (Entry (List ℕ))) (fault : IntentFault) → StillKept rest kept → entry_in rest ≡ Err fault
-      → (es : List (Entry (List ℕ))) → AreEntries bytes es → kept ≡ without_ignored (map range_of ranges) es
+      → (es : List (Entry (List ℕ))) → AreBytesOf bytes es → kept ≡ without_ignored (map range_of ranges) es
   StillKept-end rest kept fault still read es are =
       let left = still es are in
       sym (left.so_far ∙ ap (λ (xs : List (Entry (List ℕ))). kept ++ without_ignored (map range_of ranges) xs) (none_left rest left.entries fault left.are read) ∙ append-nil kept)
 
 -- ---- the provisional value behind the history
-
--- the last of entries with one behind them
-last-append : (es : List (Entry (List ℕ))) (e : Entry (List ℕ)) → last (es ++ e ∷ []) ≡ Some e
-last-append [] e = refl
-last-append (f ∷ []) e = refl
-last-append (f ∷ g ∷ gs) e = last-append (g ∷ gs) e
 
 -- those of one more entry that are not ignored
 without_ignored-append : (ranges : List SeqRange) (es : List (Entry (List ℕ))) (e : Entry (List ℕ)) {b : Bool} → is_ignored ranges e.sequence ≡ b

@@ -31,7 +31,7 @@ pub record IsWhole (e : Entry (List ℕ)) : Type 0 where
   pub size : length e.value < 2 ^ 32
 
 -- the bytes are those of these entries
-pub record AreEntries (bytes : List ℕ) (es : List (Entry (List ℕ))) : Type 0 where
+pub record AreBytesOf (bytes : List ℕ) (es : List (Entry (List ℕ))) : Type 0 where
   pub bytes_are : bytes ≡ flat_map entry_bytes es
   pub whole : AllByRecursion IsWhole es
 

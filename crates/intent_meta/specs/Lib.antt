@@ -1,4 +1,5 @@
 pub mod Record
+pub mod RecordTime
 pub mod Rules
 pub mod StoredPairs
 pub mod HistoryOf
@@ -9,6 +10,8 @@ pub mod LeftAlone
 pub mod Within
 pub mod Alike
 pub mod PairChanges
+pub mod PointPairs
 pub mod KeyPairs
 pub mod KeyChanges
+pub mod KeyHistory
 pub mod views

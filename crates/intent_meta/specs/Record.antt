@@ -1,12 +1,12 @@
 -- The stored form of an intent: its bytes, and the first fault, from the left, of bytes that are none.
-use Rattle.std.specs.Prelude.{ℕ, zero, suc, Bool, true, false, ◌&&◌, ◌||◌, not, List, [], ◌∷◌, ◌++◌, length, Option, Some, None, Result, Ok, Err, is_ok, nat_lt, nat_le, ◌==◌}
+use Rattle.std.specs.Prelude.{ℕ, zero, suc, Bool, true, false, ◌&&◌, not, List, [], ◌∷◌, ◌++◌, length, Option, Some, None, Result, Ok, Err, is_ok, nat_lt}
 use Rattle.std.specs.List.{flat_map}
 use Rattle.std.specs.Int.{Width, w32, w64, to_be_bytes}
 use Rattle.mvcc_key.specs.Steps.{◌>>=◌, unless_fault, bytes_at, number_at}
 use Rattle.mvcc_key.specs.Order.{Timestamp, is_no_time, max_wall, max_logical}
 use Rattle.mvcc_key.specs.Limits.{max_count}
 use Rattle.mvcc_key.specs.History.{Entry}
-use Rattle.mvcc_value.specs.Encoding.{body_of, header_length}
+use Rattle.mvcc_value.specs.Encoding.{body_of, is_value_length}
 use Rattle.intent_meta.specs.declared.fault.IntentFault.{IntentFault}
 use Rattle.intent_meta.specs.declared.fault.IntentFault.TheVariants.{Short, Range, Length, Order, Trailing}
 
@@ -53,11 +53,6 @@ flag_at [] = Err Short
 flag_at (zero ∷ rest) = Ok (false, rest)
 flag_at (suc zero ∷ rest) = Ok (true, rest)
 flag_at (suc (suc b) ∷ rest) = Err Length
-
--- the encoded length of a provisional value: a deletion's, or at least that of a plain value
-abbrev pub is_value_length : Bool → ℕ → Bool
-is_value_length true n = (n == 0) || (n == header_length)
-is_value_length false n = nat_le 5 n
 
 -- nothing, or a plain value; a value with a header is none
 abbrev pub is_entry_value : List ℕ → Bool

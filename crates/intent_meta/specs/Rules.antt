@@ -4,7 +4,8 @@ use Rattle.mvcc_key.specs.Encoded.{IsBytes}
 use Rattle.mvcc_key.specs.Limits.{max_count}
 use Rattle.mvcc_key.specs.Order.{Timestamp, is_no_time, is_in_range}
 use Rattle.mvcc_key.specs.History.{Entry}
-use Rattle.intent_meta.specs.Record.{IntentRecord, record_bytes, record_of, is_value_length, is_entry_value, is_next_sequence}
+use Rattle.mvcc_value.specs.Encoding.{is_value_length}
+use Rattle.intent_meta.specs.Record.{IntentRecord, record_bytes, record_of, is_entry_value, is_next_sequence}
 
 -- a timestamp that a record may have
 pub record IsRecordTime (t : Timestamp) : Type 0 where

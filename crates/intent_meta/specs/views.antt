@@ -1,2 +1,7 @@
 -- Words that only contracts of the code need: how they view its values, and what holds inside.
 pub mod Seen
+pub mod Lent
+pub mod Listed
+pub mod SeenListed
+pub mod WholeKeys
+pub mod KeyHistoryProps

@@ -19,7 +19,7 @@ pub fn decode(bytes: &[u8]) -> Result<IntentRef<'_>, IntentFault>
     ensures fault { IfErr result (λ e. words.record_of bytes.now ≡ Err e) }
 {
     check(bytes)?;
-    Ok(IntentRef::of(bytes))
+    Ok(IntentRef::over(bytes))
 }
 
 /// The bytes are a record.

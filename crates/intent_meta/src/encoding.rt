@@ -5,7 +5,7 @@ ghost use Rattle.intent_meta.specs.Entries.{IsWhole};
 ghost use Rattle.intent_meta.specs.Record.{entry_bytes};
 
 use crate::Entry;
-use crate::numbers::{put_bytes, put_u32};
+use mvcc_key::numbers::{put_bytes, put_u32};
 
 /// How many bytes the entries have.
 pub(crate) fn entries_len(entries: &[Entry]) -> u64

@@ -3,7 +3,7 @@ ghost use Rattle.std.specs.Prelude.{◌≡◌, ℕ, List, IfOk, map, ◌&&◌, n
 ghost use Rattle.std.specs.Option.{option_map};
 ghost use Rattle.mvcc_key.specs.History as history;
 ghost use Rattle.mvcc_key.specs.views.Seen.{range_of};
-ghost use Rattle.intent_meta.specs.Entries.{AreEntries};
+ghost use Rattle.intent_meta.specs.Entries.{AreBytesOf};
 ghost use Rattle.intent_meta.specs.views.Seen.{is_ignored_by, seen_entry};
 
 use crate::fields::{EntryRef, first_entry};
@@ -61,7 +61,7 @@ pub(crate) fn last_seen<'a>(
     sequence: u32,
     ignored: &[SeqRange],
 ) -> Option<&'a [u8]>
-    ensures { (es : List (history.Entry (List ℕ))) → AreEntries bytes.now es
+    ensures { (es : List (history.Entry (List ℕ))) → AreBytesOf bytes.now es
         → option_map (λ v. v.now) result ≡ option_map (λ e. e.value) (history.entry_at sequence (map range_of ignored.now) es) }
 {
     let mut found = None;
@@ -81,7 +81,7 @@ pub(crate) fn kept(
     bytes: &[u8],
     ignored: &[SeqRange],
 ) -> Result<Entries, OutOfMemory>
-    ensures { IfOk result (λ left. (es : List (history.Entry (List ℕ))) → AreEntries bytes.now es
+    ensures { IfOk result (λ left. (es : List (history.Entry (List ℕ))) → AreBytesOf bytes.now es
         → left ≡ history.without_ignored (map range_of ignored.now) es) }
 {
     let mut left = Entries::new(alloc);

@@ -10,20 +10,9 @@ ghost use Rattle.intent_meta.specs.Record as words;
 ghost use Rattle.intent_meta.specs.views.Seen.{seen_entry};
 
 use crate::IntentFault;
-use crate::numbers::{read_u32, read_u64};
-use mvcc_key::Timestamp;
-
-/// The greatest epoch and the greatest sequence.
-const MAX_COUNT: u32 = (1 << 31) - 1;
-
-/// The greatest wall time.
-const MAX_WALL: u64 = (1 << 63) - 1;
-
-/// The length of a header with a local timestamp, and so of a deletion that keeps one.
-const HEADER_LEN: u32 = 17;
-
-/// The least length of a plain value.
-const PLAIN_LEN: u32 = 5;
+use mvcc_key::numbers::{read_u32, read_u64};
+use mvcc_key::{MAX_COUNT, MAX_WALL, Timestamp};
+use mvcc_value::is_value_len;
 
 /// An entry that lies in a record's bytes.
 #[derive(Clone, Copy, Debug)]
@@ -124,21 +113,10 @@ pub(crate) fn value_length(deleted: bool, bytes: &[u8]) -> Result<(u32, &[u8]), 
         (λ e. words.value_length_at deleted bytes.now ≡ Err e) }
 {
     let (length, rest) = number(bytes)?;
-    if !is_value_length(deleted, length) {
+    if !is_value_len(deleted, length) {
         return Err(IntentFault::Length);
     }
     Ok((length, rest))
-}
-
-/// A deletion has no bytes or a header alone, and any other value at least those of a plain value.
-fn is_value_length(deleted: bool, length: u32) -> bool
-    ensures { result ≡ words.is_value_length deleted length }
-{
-    if deleted {
-        length == 0 || length == HEADER_LEN
-    } else {
-        length >= PLAIN_LEN
-    }
 }
 
 /// A history entry, behind one with the sequence before, in a record of the sequence `limit`.

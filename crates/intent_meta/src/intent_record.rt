@@ -3,12 +3,13 @@ ghost use Rattle.std.specs.Prelude.{◌≡◌, ◌≤◌, ◌+◌, ◌++◌, fal
 ghost use Rattle.mvcc_key.specs.Limits.{max_count};
 ghost use Rattle.mvcc_key.specs.Order.{is_no_time};
 ghost use Rattle.mvcc_key.specs.views.Seen.{time_of};
-ghost use Rattle.intent_meta.specs.Record.{head_bytes, is_value_length, record_bytes, record_of};
+ghost use Rattle.mvcc_value.specs.Encoding.{is_value_length};
+ghost use Rattle.intent_meta.specs.Record.{head_bytes, record_bytes, record_of};
 ghost use Rattle.intent_meta.specs.Rules.{AreRecordEntries};
 
 use crate::encoding::{entries_len, put_entries};
-use crate::numbers::{put_bytes, put_u32, put_u64};
 use crate::{Entries, Entry};
+use mvcc_key::numbers::{put_bytes, put_u32, put_u64};
 use mvcc_key::{OutOfMemory, Timestamp};
 use std::alloc::Global;
 use std::marker::Model;

@@ -7,31 +7,14 @@ ghost use Rattle.mvcc_key.specs.views.Seen.{range_of, time_of};
 ghost use Rattle.intent_meta.specs.Entries as words;
 ghost use Rattle.intent_meta.specs.Record.{record_bytes, record_of};
 
-use crate::Entries;
 use crate::entries::{is_seen, kept, last_seen};
 use crate::fields::EntryRef;
-use crate::numbers::{read_u32, read_u64};
+use crate::layout::{DELETED, EPOCH, HISTORY, SEQUENCE, VALUE_LEN};
+use crate::{Entries, record_time};
+use mvcc_key::numbers::read_u32;
 use mvcc_key::{OutOfMemory, SeqRange, Timestamp};
 use std::alloc::Global;
 use uuid::Uuid;
-
-/// Where the epoch begins, behind the id.
-const EPOCH: usize = 16;
-
-/// Where the sequence begins.
-const SEQUENCE: usize = 20;
-
-/// Where the wall time begins.
-const WALL: usize = 24;
-
-/// Where the logical counter begins.
-const LOGICAL: usize = 32;
-
-/// Where the deletion flag stands.
-const DELETED: usize = 36;
-
-/// Where the history entries begin, behind the value's length and their number.
-const HISTORY: usize = 45;
 
 /// An intent record in its bytes, which are lent and were judged once by [`decode`](crate::decode) (CockroachDB
 /// `enginepb.MVCCMetadata`). Its readers take the fields from where they lie.
@@ -47,7 +30,7 @@ impl<'a> IntentRef<'a> {
     ghost use Rattle.intent_meta.specs.views.Seen.{record_in, seen_intent};
 
     /// The record that these bytes are.
-    pub(crate) fn of(bytes: &'a [u8]) -> IntentRef<'a>
+    pub(crate) fn over(bytes: &'a [u8]) -> IntentRef<'a>
         requires { IsOk (record_of bytes.now) }
         ensures { seen_intent result ≡ record_in bytes.now }
     {
@@ -89,9 +72,7 @@ impl<'a> IntentRef<'a> {
     pub fn ts(&self) -> Timestamp
         ensures { time_of result ≡ (seen_intent self.now).ts }
     {
-        let wall = read_u64(self.bytes.split_at(WALL).1);
-        let logical = read_u32(self.bytes.split_at(LOGICAL).1);
-        Timestamp::new(wall, logical).unwrap()
+        record_time(self.bytes).unwrap()
     }
 
     /// Whether the provisional value is a deletion.
@@ -99,6 +80,13 @@ impl<'a> IntentRef<'a> {
         ensures { result ≡ (seen_intent self.now).deleted }
     {
         self.bytes[DELETED] == 1
+    }
+
+    /// How many bytes the encoded value of the provisional version has, its header among them where a local timestamp is kept.
+    pub fn value_len(&self) -> u32
+        ensures { result ≡ (seen_intent self.now).value_length }
+    {
+        read_u32(self.bytes.split_at(VALUE_LEN).1)
     }
 
     /// The plain value that a read of its transaction sees at this sequence: that of the greatest sequence that is at most the
@@ -143,7 +131,7 @@ impl<'a> IntentRef<'a> {
 
     /// The bytes of the history entries.
     fn history(&self) -> &'a [u8]
-        ensures { words.AreEntries result.now (seen_intent self.now).history }
+        ensures { words.AreBytesOf result.now (seen_intent self.now).history }
     {
         self.bytes.split_at(HISTORY).1
     }

@@ -1,4 +1,5 @@
 //! Laws of the definitions, each the contract of a function that does nothing.
+ghost use Rattle.intent_meta.specs.views.WholeKeys.{KeysAreWhole};
 ghost use Rattle.intent_meta.specs.ReadBack.{StoredIsReadBack, FragmentsStay, StoredPairsRise};
 ghost use Rattle.intent_meta.specs.Rules.{RecordIsRead, ReadingWasWritten};
 
@@ -14,4 +15,9 @@ pub fn stored_is_read_back()
     ensures read { StoredIsReadBack }
     ensures fragments { FragmentsStay }
     ensures rising { StoredPairsRise }
+{}
+
+/// What a valid history has of a key is what [`KeyItems`](crate::KeyItems) may tell of one.
+pub fn keys_are_whole()
+    ensures { KeysAreWhole }
 {}

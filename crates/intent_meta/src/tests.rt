@@ -41,6 +41,8 @@ fn check(
     assert_eq!(rt; read.epoch(), 0);
     assert_eq!(rt; read.sequence(), sequence);
     assert_eq!(rt; read.ts(), two_seconds()?);
+    assert!(rt; record_time(bytes) == Some(two_seconds()?));
+    assert!(rt; record_time(&bytes[..35.min(bytes.len())]).is_none());
     assert!(rt; !read.deleted());
     Ok(())
 }

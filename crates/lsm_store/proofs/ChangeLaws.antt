@@ -14,7 +14,7 @@ use Rattle.lsm_store.specs.Parts.{NameState, state_cmp, set_state, cleared_state
 use Rattle.lsm_store.specs.Shown.{shown, with_batch, pairs_of, state_of_point, parts_of, part_of, stage_of}
 use Rattle.lsm_store.specs.views.Changing.{is_same_value, is_change, changes_points}
 use Rattle.lsm_store.proofs.KnownLaws.{newer, keep, passes, known, known-named, known-append, known-in_order, known-filter, known-behind, known-map, sorted-in_order, same-known, map-in_order}
-use Rattle.lsm_store.proofs.SoughtLaws.{same_test}
+use Rattle.lsm_store.proofs.SoughtLaws.{same-test}
 use Rattle.lsm_store.proofs.ApplyLaws.{point_name, value_in, ArePoints, sorted-shown, value-keep, known-with_batch, known-kept, shown-applied}
 
 -- ---- pairs and points
@@ -170,7 +170,7 @@ known-cleared n after (Some p) sorted named =
 
 -- the same bytes, either way round
 bytes_eq-back : (v w : List ℕ) → bytes_eq v w ≡ bytes_eq w v
-bytes_eq-back v w = same_test _ _
+bytes_eq-back v w = same-test _ _
     (λ h. (bytes_eq-Decides w v).1 (sym ((bytes_eq-Decides v w).0 h)))
     (λ h. (bytes_eq-Decides v w).1 (sym ((bytes_eq-Decides w v).0 h)))
 

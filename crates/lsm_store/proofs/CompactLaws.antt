@@ -11,7 +11,7 @@ use Rattle.std.proofs.lemmas.List.Concat.{flat_map-append}
 use Rattle.std.proofs.lemmas.List.Elements.{All-filter, All-from_recursion, recursion_from_All}
 use Rattle.mvcc_key.specs.Lists.{put_in_order, in_order, is_empty}
 use Rattle.mvcc_key.specs.Points.{Point}
-use Rattle.mem_table.specs.Entries.{IsStoredPoint}
+use Rattle.mvcc_key.specs.Batches.{IsStoredPoint}
 use Rattle.mem_table.specs.Table.{newest_points}
 use Rattle.merge_cursor.specs.Merged.{joined, merged}
 use Rattle.merge_cursor.specs.Visible.{visible}

@@ -1,7 +1,7 @@
 -- Lists of things with names: what is known of a name.
 use Rattle.std.proofs.Common.{◌≡◌, Bool, true, false, cond, List, [], ◌∷◌, ◌++◌, map, refl, sym, ap, ◌∙◌}
-use Rattle.std.specs.Prelude.{find, filter, Some, None, ◌&&◌, ◌||◌}
-use Rattle.std.specs.List.{AllByRecursion, list_any}
+use Rattle.std.specs.Prelude.{find, filter, Some, None}
+use Rattle.std.specs.List.{AllByRecursion}
 use Rattle.std.specs.List.Sorted.{IsStrictlySortedBy}
 use Rattle.std.specs.declared.option.Option.{Option}
 use Rattle.std.specs.Option.{option_map}
@@ -13,7 +13,7 @@ use Rattle.mvcc_key.specs.Lists.{put_in_order, in_order}
 use Rattle.mvcc_key.specs.Order.{Name, name_cmp, is_same_name}
 use Rattle.mvcc_key.proofs.OrderLaws.{name_cmp-total, name_cmp-IsAntisymmetric}
 use Rattle.mvcc_key.proofs.SortedLaws.{in_order-sorted}
-use Rattle.merge_cursor.proofs.OrderLaws.{one_name, same_itself, back_greater, back_less}
+use Rattle.merge_cursor.proofs.OrderLaws.{is_same_name-one, is_same_name-itself, back-greater, back-less}
 
 -- the first, where there is one, and else the second
 abbrev pub newer : {X : Type 0} → Option X → Option X → Option X
@@ -31,8 +31,8 @@ passes test None = false
 passes test (Some x) = test x
 
 -- different names do not tie
-pub less_differs : (m n : Name) → name_cmp m n ≡ Less → is_same_name n m ≡ false
-less_differs m n h = ap is_eq (back_greater m n h)
+pub less-differs : (m n : Name) → name_cmp m n ≡ Less → is_same_name n m ≡ false
+less-differs m n h = ap is_eq (back-greater m n h)
 
 module _ {X : Type 0} (name : X → Name) where
   -- the first of a name
@@ -53,7 +53,7 @@ module _ {X : Type 0} (name : X → Name) where
   known-named n (y ∷ ys) x h = by (is_same_name (name y) n) refl h (known-named n ys x)
     where
       by : (b : Bool) → is_same_name (name y) n ≡ b → cond b (Some y) (known n ys) ≡ Some x → (known n ys ≡ Some x → name x ≡ n) → name x ≡ n
-      by true same k rest = (let is : y ≡ x = cc in ap name (sym is) ∙ one_name (name y) n same)
+      by true same k rest = (let is : y ≡ x = cc in ap name (sym is) ∙ is_same_name-one (name y) n same)
       by false same k rest = rest k
 
   -- what is known first goes before what is known behind
@@ -74,9 +74,9 @@ module _ {X : Type 0} (name : X → Name) where
       both : (a b : Bool) (o : Option X) → is_same_name (name x) n ≡ a → is_same_name (name y) n ≡ b → by_name x y ≡ Greater
           → cond b (Some y) (cond a (Some x) o) ≡ cond a (Some x) (cond b (Some y) o)
       both true true o h k greater =
-          (let one : name y ≡ name x = one_name (name y) n k ∙ sym (one_name (name x) n h) in
-          let same : is_same_name (name y) (name x) ≡ true = ap (λ (m : Name). is_same_name m (name x)) one ∙ same_itself (name x) in
-          let less : is_same_name (name y) (name x) ≡ false = ap is_eq (back_less (name x) (name y) greater) in
+          (let one : name y ≡ name x = is_same_name-one (name y) n k ∙ sym (is_same_name-one (name x) n h) in
+          let same : is_same_name (name y) (name x) ≡ true = ap (λ (m : Name). is_same_name m (name x)) one ∙ is_same_name-itself (name x) in
+          let less : is_same_name (name y) (name x) ≡ false = ap is_eq (back-less (name x) (name y) greater) in
           absurd cc)
       both true false o h k greater = refl
       both false true o h k greater = refl
@@ -111,12 +111,12 @@ module _ {X : Type 0} (name : X → Name) where
   -- nothing is known of a name below all
   pub known-above : (n : Name) (xs : List X) → AllByRecursion (λ x. name_cmp n (name x) ≡ Less) xs → known n xs ≡ None
   known-above n [] h = refl
-  known-above n (x ∷ xs) h = ap (λ (b : Bool). cond b (Some x) (known n xs)) (less_differs n (name x) h.0) ∙ known-above n xs h.1
+  known-above n (x ∷ xs) h = ap (λ (b : Bool). cond b (Some x) (known n xs)) (less-differs n (name x) h.0) ∙ known-above n xs h.1
 
   -- behind the first its name is not known
   pub known-behind : (n : Name) (x : X) (xs : List X) → AreSorted (x ∷ xs) → is_same_name (name x) n ≡ true → known n xs ≡ None
   unfolding IsStrictlySortedBy
-  known-behind n x xs sorted same = ap (λ (m : Name). known m xs) (sym (one_name (name x) n same)) ∙ known-above (name x) xs sorted.0
+  known-behind n x xs sorted same = ap (λ (m : Name). known m xs) (sym (is_same_name-one (name x) n same)) ∙ known-above (name x) xs sorted.0
 
   -- what is below all stays so where some are left out
   above-filter : (n : Name) (test : X → Bool) (xs : List X) → AllByRecursion (λ x. name_cmp n (name x) ≡ Less) xs → AllByRecursion (λ x. name_cmp n (name x) ≡ Less) (filter test xs)
@@ -153,38 +153,21 @@ module _ {X : Type 0} (name : X → Name) where
           rest ∙ ap (keep test) (known-behind n x xs sorted same) ∙ ap (λ (b : Bool). cond b (Some x) None) (sym passing)
       by false false passing same rest = rest
 
-  -- one of the name that passes is what is known and passes
-  pub any-known : (n : Name) (test : X → Bool) (xs : List X) → AreSorted xs
-      → list_any (λ x. is_same_name (name x) n && test x) xs ≡ passes test (known n xs)
-  unfolding IsStrictlySortedBy
-  any-known n test [] sorted = refl
-  any-known n test (x ∷ xs) sorted = by (is_same_name (name x) n) refl (any-known n test xs sorted.1)
-    where
-      alone : (b : Bool) → (b || false) ≡ b
-      alone true = refl
-      alone false = refl
-
-      by : (b : Bool) → is_same_name (name x) n ≡ b → list_any (λ x. is_same_name (name x) n && test x) xs ≡ passes test (known n xs)
-          → ((b && test x) || list_any (λ x. is_same_name (name x) n && test x) xs) ≡ passes test (cond b (Some x) (known n xs))
-      by true same rest =
-          ap (λ (c : Bool). test x || c) (rest ∙ ap (passes test) (known-behind n x xs sorted same)) ∙ alone (test x)
-      by false same rest = rest
-
   -- lists that rise and know the same of each name are the same
   pub same-known : (xs ys : List X) → AreSorted xs → AreSorted ys → ((n : Name) → known n xs ≡ known n ys) → xs ≡ ys
   unfolding IsStrictlySortedBy
   same-known [] [] s t h = refl
   same-known [] (y ∷ ys) s t h =
-      absurd (let e = h (name y) in let f : known (name y) (y ∷ ys) ≡ Some y = ap (λ (b : Bool). cond b (Some y) (known (name y) ys)) (same_itself (name y)) in cc)
+      absurd (let e = h (name y) in let f : known (name y) (y ∷ ys) ≡ Some y = ap (λ (b : Bool). cond b (Some y) (known (name y) ys)) (is_same_name-itself (name y)) in cc)
   same-known (x ∷ xs) [] s t h =
-      absurd (let e = h (name x) in let f : known (name x) (x ∷ xs) ≡ Some x = ap (λ (b : Bool). cond b (Some x) (known (name x) xs)) (same_itself (name x)) in cc)
+      absurd (let e = h (name x) in let f : known (name x) (x ∷ xs) ≡ Some x = ap (λ (b : Bool). cond b (Some x) (known (name x) xs)) (is_same_name-itself (name x)) in cc)
   same-known (x ∷ xs) (y ∷ ys) s t h = by (name_cmp (name x) (name y)) refl (λ k. same-known xs ys s.1 t.1 k)
     where
       here : known (name x) (x ∷ xs) ≡ Some x
-      here = ap (λ (b : Bool). cond b (Some x) (known (name x) xs)) (same_itself (name x))
+      here = ap (λ (b : Bool). cond b (Some x) (known (name x) xs)) (is_same_name-itself (name x))
 
       there : known (name y) (y ∷ ys) ≡ Some y
-      there = ap (λ (b : Bool). cond b (Some y) (known (name y) ys)) (same_itself (name y))
+      there = ap (λ (b : Bool). cond b (Some y) (known (name y) ys)) (is_same_name-itself (name y))
 
       below : (m n : Name) (zs : List X) → name_cmp m n ≡ Less → AllByRecursion (λ z. name_cmp n (name z) ≡ Less) zs → AllByRecursion (λ z. name_cmp m (name z) ≡ Less) zs
       below m n [] less a = tt
@@ -211,7 +194,7 @@ module _ {X : Type 0} (name : X → Name) where
           let f = h (name y) in let g = there in cc) in
           ap (λ (z : X). z ∷ xs) first ∙ ap (λ (zs : List X). y ∷ zs) (more (λ n. rest n one))
       by Greater o more =
-          absurd (let less = back_less (name x) (name y) o in
+          absurd (let less = back-less (name x) (name y) o in
           let none : known (name y) (x ∷ xs) ≡ None = known-above (name y) (x ∷ xs) (less, below (name y) (name x) xs less s.0) in
           let e = h (name y) in let f = there in cc)
 

@@ -18,31 +18,31 @@ use Rattle.mvcc_key.proofs.OrderLaws.{name_cmp-total}
 use Rattle.mvcc_key.proofs.KeyFormatLaws.{name_of-encoded_name}
 use Rattle.mvcc_key.proofs.PointLaws.{point_at-next, slice_get-count_below, sorted-rising}
 use Rattle.mem_table.specs.Table.{state_of}
-use Rattle.merge_cursor.proofs.OrderLaws.{one_name, same_itself, back_less}
+use Rattle.merge_cursor.proofs.OrderLaws.{is_same_name-one, is_same_name-itself, back-less}
 use Rattle.merge_cursor.specs.Merged.{joined}
 use Rattle.lsm_store.specs.views.Changing.{is_same_value, is_change}
 use Rattle.lsm_store.proofs.KnownLaws.{newer, keep, known-above, known-append}
 
 -- two tests that hold together are the same
-pub same_test : (a b : Bool) → (a ≡ true → b ≡ true) → (b ≡ true → a ≡ true) → a ≡ b
-same_test true true h k = refl
-same_test true false h k = sym (h refl)
-same_test false true h k = k refl
-same_test false false h k = refl
+pub same-test : (a b : Bool) → (a ≡ true → b ≡ true) → (b ≡ true → a ≡ true) → a ≡ b
+same-test true true h k = refl
+same-test true false h k = sym (h refl)
+same-test false true h k = k refl
+same-test false false h k = refl
 
 -- a key is the encoding of the name that it encodes, and of no other
 pub key-name : (key : List ℕ) (n : Name) → IsName key → is_in_range n.ts ≡ true → bytes_eq key (encoded_name n) ≡ is_same_name n (name_in key)
-key-name key n named range = same_test _ _ there back
+key-name key n named range = same-test _ _ there back
   where
     there : bytes_eq key (encoded_name n) ≡ true → is_same_name n (name_in key) ≡ true
     there h =
         let bytes : key ≡ encoded_name n = (bytes_eq-Decides key (encoded_name n)).0 h in
         let read : name_of key ≡ Ok n = ap name_of bytes ∙ name_of-encoded_name n range in
-        ap (λ (r : Result Name KeyFault). is_same_name n (known_name r)) read ∙ same_itself n
+        ap (λ (r : Result Name KeyFault). is_same_name n (known_name r)) read ∙ is_same_name-itself n
 
     back : is_same_name n (name_in key) ≡ true → bytes_eq key (encoded_name n) ≡ true
     back h =
-        (bytes_eq-Decides key (encoded_name n)).1 (sym named.spelled ∙ ap encoded_name (sym (one_name n (name_in key) h)))
+        (bytes_eq-Decides key (encoded_name n)).1 (sym named.spelled ∙ ap encoded_name (sym (is_same_name-one n (name_in key) h)))
 
 -- among points that rise a name is known where the first point that is not below it has it
 known-first : (n : Name) (points : List Point) → IsStrictlySortedBy point_cmp points
@@ -61,7 +61,7 @@ known-first n (p ∷ ps) sorted = by (name_cmp p.name n) refl (known-first n ps 
     by Less h rest = rest
     by Equal h rest = ap (λ (o : Ordering). cond (is_eq o) (Some p) None) (sym h)
     by Greater h rest =
-        known-above (λ (q : Point). q.name) n ps (above ps (back_less p.name n h) sorted.0)
+        known-above (λ (q : Point). q.name) n ps (above ps (back-less p.name n h) sorted.0)
         ∙ ap (λ (o : Ordering). cond (is_eq o) (Some p) None) (sym h)
 
 -- what an operation changes of a name, by the point at which a seek to it stops
@@ -138,24 +138,24 @@ value-change value known (Some p) h = ap (option_map (λ v. not (is_same_value v
 -- ---- several parts
 
 -- the next of those that are left
-pub next_left : {X Y : Type 0} (f : X → Y) (xs : List X) (i : ℕ) (x : X) → i < length xs → x ≡ get_or xs i x → map f (drop i xs) ≡ f x ∷ map f (drop (i + 1) xs)
-next_left f xs i x lt is =
+pub next-left : {X Y : Type 0} (f : X → Y) (xs : List X) (i : ℕ) (x : X) → i < length xs → x ≡ get_or xs i x → map f (drop i xs) ≡ f x ∷ map f (drop (i + 1) xs)
+next-left f xs i x lt is =
     let more : suc i ≡ i + 1 = omega arith in
     ap (map f) (drop-cons xs i x lt ∙ ap (λ (y : _). y ∷ drop (suc i) xs) (sym is)) ∙ ap (λ (n : ℕ). f x ∷ map f (drop n xs)) more
 
 -- a part that does not know the name says nothing of what is known of it
-pub known_behind : (name : Name) (value : Option (List ℕ)) (points : List Point) (lists : List (List Point))
+pub known-behind : (name : Name) (value : Option (List ℕ)) (points : List Point) (lists : List (List Point))
     → None ≡ option_map (λ p. is_change value (Some p)) (state_of name points) → state_of name (joined (points ∷ lists)) ≡ state_of name (joined lists)
-known_behind name value points lists h = known-append (λ (p : Point). p.name) name points (joined lists) ∙ by (state_of name points) h
+known-behind name value points lists h = known-append (λ (p : Point). p.name) name points (joined lists) ∙ by (state_of name points) h
   where
     by : (o : Option Point) → None ≡ option_map (λ p. is_change value (Some p)) o → newer o (state_of name (joined lists)) ≡ state_of name (joined lists)
     by None k = refl
     by (Some p) k = absurd cc
 
 -- one that knows it decides
-pub known_here : (name : Name) (value : Option (List ℕ)) (points : List Point) (lists : List (List Point)) (change : Bool)
+pub known-here : (name : Name) (value : Option (List ℕ)) (points : List Point) (lists : List (List Point)) (change : Bool)
     → Some change ≡ option_map (λ p. is_change value (Some p)) (state_of name points) → change ≡ is_change value (state_of name (joined (points ∷ lists)))
-known_here name value points lists change h = by (state_of name points) h ∙ ap (is_change value) (sym (known-append (λ (p : Point). p.name) name points (joined lists)))
+known-here name value points lists change h = by (state_of name points) h ∙ ap (is_change value) (sym (known-append (λ (p : Point). p.name) name points (joined lists)))
   where
     by : (o : Option Point) → Some change ≡ option_map (λ p. is_change value (Some p)) o → change ≡ is_change value (newer o (state_of name (joined lists)))
     by None k = absurd cc

@@ -8,7 +8,7 @@ use Rattle.std.proofs.lemmas.List.Elements.{All-head, All-tail}
 use Rattle.mvcc_key.specs.Order.{Timestamp, Name, is_no_time, is_up_to, is_same_name}
 use Rattle.mvcc_key.specs.Points.{Point}
 use Rattle.mem_table.specs.Table.{state_of}
-use Rattle.merge_cursor.proofs.OrderLaws.{one_name}
+use Rattle.merge_cursor.proofs.OrderLaws.{is_same_name-one}
 use Rattle.merge_cursor.specs.Merged.{joined}
 use Rattle.run_block.specs.TimeSpan.{point_time}
 use Rattle.lsm_store.proofs.KnownLaws.{newer, known-append}
@@ -41,7 +41,7 @@ unset-above n t (p ∷ ps) more timed above all =
         cc
 
     by : (b : Bool) → is_same_name p.name n ≡ b → value_in (state_of n ps) ≡ None → value_in (cond b (Some p) (state_of n ps)) ≡ None
-    by true same later = value p.value refl (one_name p.name n same)
+    by true same later = value p.value refl (is_same_name-one p.name n same)
     by false same later = later
 
 -- where neither part sets the name, both together do not

@@ -110,13 +110,13 @@ abbrev pub unless_empty : Part → List Part
 unless_empty p = if is_empty_part p then [] else p ∷ []
 
 -- the runs after the oldest are united
-abbrev pub merged : ℕ → List Part → List Part
-merged keep runs = if nat_lt keep (length runs) then take (keep - 1) runs ++ unless_empty (united (drop (keep - 1) runs)) else runs
+abbrev pub compacted_runs : ℕ → List Part → List Part
+compacted_runs keep runs = if nat_lt keep (length runs) then take (keep - 1) runs ++ unless_empty (united (drop (keep - 1) runs)) else runs
 
 -- the oldest runs are united so that at most so many are left
 unfoldable pub compacted : ℕ → List Part → List Part
 compacted keep [] = []
-compacted keep (table ∷ runs) = table ∷ merged keep runs
+compacted keep (table ∷ runs) = table ∷ compacted_runs keep runs
 
 -- what is shown of a part
 pub record PartShape : Type 0 where

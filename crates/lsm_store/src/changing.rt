@@ -6,7 +6,7 @@ ghost use Rattle.mvcc_key.specs.views.Seen.{time_of};
 ghost use Rattle.mvcc_key.specs.Encoded.{IsName, name_in};
 ghost use Rattle.mvcc_key.specs.Points.{key_at};
 ghost use Rattle.mvcc_key.specs.views.SeenPoint.{point_of};
-ghost use Rattle.mem_table.specs.Entries.{IsStorable};
+ghost use Rattle.mvcc_key.specs.Batches.{IsStorable};
 ghost use Rattle.mem_table.specs.views.Places.{IsPlaceOf};
 ghost use Rattle.mem_table.specs.Table.{state_of};
 ghost use Rattle.merge_cursor.specs.Merged.{joined};
@@ -14,10 +14,8 @@ ghost use Rattle.lsm_store.specs.Shown.{shown};
 ghost use Rattle.lsm_store.specs.views.Changing.{is_same_value, is_change, changes_points};
 
 use mem_table::{MemPlace, MemTable};
-use mvcc_key::{Bytes, Cursor, Looks, PointOp, Timestamp, decode_key};
+use mvcc_key::{Bytes, Cursor, PointOp, Timestamp, read_key, seek_ge};
 use run_block::Run;
-use std::marker::Brand;
-use std::sync::ledger::{Blank, Ledger};
 
 /// Keeps the operations that change what the parts show, in their order. This takes no memory.
 pub(crate) fn retain_changes(ops: &mut Vec<PointOp>, table: &MemTable, runs: &[Run])
@@ -27,7 +25,7 @@ pub(crate) fn retain_changes(ops: &mut Vec<PointOp>, table: &MemTable, runs: &[R
 {
     let mut kept = 0;
     for i in 0..ops.len() {
-        if changes::<Brand>(table, runs, &ops[i], Blank::new(1)) {
+        if changes(table, runs, &ops[i]) {
             ops.swap(kept, i);
             kept += 1;
         }
@@ -36,29 +34,17 @@ pub(crate) fn retain_changes(ops: &mut Vec<PointOp>, table: &MemTable, runs: &[R
 }
 
 /// Whether the operation changes what is seen of its name: the newest part that knows the name decides.
-fn changes<L: Ledger>(table: &MemTable, runs: &[Run], op: &PointOp, blank: Blank) -> bool
-    requires name { blank.name ≡ L.name }
-    requires parts { blank.parts ≡ L.parts }
-    requires some { 0 < blank.parts }
-    requires op { IsName op.now.key }
+fn changes(table: &MemTable, runs: &[Run], op: &PointOp) -> bool
+    requires { IsName op.now.key }
     ensures { let points = shown (table.now.points ∷ map (λ r. r.points) runs.now) in
         result ≡ changes_points points (point_of op.now) }
 {
     let place = table.find(op.key.as_slice());
-    changes_at::<L>(table, place, runs, op, blank)
+    changes_at(table, place, runs, op)
 }
 
 /// The same for an operation whose name has this place in the memory table, by which it is not sought there again.
-pub(crate) fn changes_at<L: Ledger>(
-    table: &MemTable,
-    place: MemPlace,
-    runs: &[Run],
-    op: &PointOp,
-    blank: Blank,
-) -> bool
-    requires name { blank.name ≡ L.name }
-    requires parts { blank.parts ≡ L.parts }
-    requires some { 0 < blank.parts }
+pub(crate) fn changes_at(table: &MemTable, place: MemPlace, runs: &[Run], op: &PointOp) -> bool
     requires op { IsName op.now.key }
     requires place { IsPlaceOf (name_in op.now.key) table.now.points place }
     ensures { let points = shown (table.now.points ∷ map (λ r. r.points) runs.now) in
@@ -66,29 +52,29 @@ pub(crate) fn changes_at<L: Ledger>(
 {
     match table.value_at(place) {
         Some(value) => !is_same(&op.value, value),
-        None => changes_runs(runs, op, &mut Looks::<L>::new(blank)),
+        None => changes_runs(runs, op),
     }
 }
 
 /// The same for runs alone, from the newest to the oldest. Where the timestamp of the name is above all those of the runs, none of
 /// them sets it, and none is asked.
-fn changes_runs<L: Ledger>(runs: &[Run], op: &PointOp, looks: &mut Looks<L>) -> bool
+fn changes_runs(runs: &[Run], op: &PointOp) -> bool
     requires { IsName op.now.key }
     ensures { result ≡ is_change op.now.value (state_of (name_in op.now.key) (joined (map (λ r. r.points) runs.now))) }
 {
     if are_below(runs, op.key.as_slice()) {
         return op.value.is_some();
     }
-    seek_change(runs, op, looks)
+    seek_change(runs, op)
 }
 
 /// The same by seeks, one a run.
-fn seek_change<L: Ledger>(runs: &[Run], op: &PointOp, looks: &mut Looks<L>) -> bool
+fn seek_change(runs: &[Run], op: &PointOp) -> bool
     requires { IsName op.now.key }
     ensures { result ≡ is_change op.now.value (state_of (name_in op.now.key) (joined (map (λ r. r.points) runs.now))) }
 {
     for run in runs {
-        if let Some(change) = changes_part(&mut run.cursor(), op, looks) {
+        if let Some(change) = changes_part(&mut run.cursor(), op) {
             return change;
         }
     }
@@ -97,12 +83,11 @@ fn seek_change<L: Ledger>(runs: &[Run], op: &PointOp, looks: &mut Looks<L>) -> b
 
 /// Whether the encoded key has a timestamp that is above all those of the runs, so that none of them sets its name.
 fn are_below(runs: &[Run], key: &[u8]) -> bool
+    requires { IsName key.now }
     ensures { IsTrue result → option_and_then (λ p. p.value) (state_of (name_in key.now) (joined (map (λ r. r.points) runs.now))) ≡ None }
 {
-    match decode_key(key) {
-        Ok(name) => name.ts != Timestamp::NONE && end_before(runs, name.ts),
-        Err(_) => false,
-    }
+    let ts = read_key(key).ts;
+    ts != Timestamp::NONE && end_before(runs, ts)
 }
 
 /// Whether all timestamps of the runs are below this one.
@@ -130,15 +115,11 @@ fn ends_before(run: &Run, ts: Timestamp) -> bool
 }
 
 /// Whether the operation changes what a part says of its name. `None` where the part does not know the name.
-fn changes_part<C: Cursor, L: Ledger>(
-    cursor: &mut C,
-    op: &PointOp,
-    looks: &mut Looks<L>,
-) -> Option<bool>
+fn changes_part<C: Cursor>(cursor: &mut C, op: &PointOp) -> Option<bool>
     requires { IsName op.now.key }
     ensures { result ≡ option_map (λ p. is_change op.now.value (Some p)) (state_of (name_in op.now.key) (C.points cursor.old)) }
 {
-    cursor.seek_ge(op.key.as_slice(), looks);
+    seek_ge(cursor, op.key.as_slice());
     if is_at(cursor, op.key.as_slice()) {
         Some(!is_same(&op.value, cursor.value()))
     } else {

@@ -5,9 +5,7 @@ ghost use Rattle.lsm_store.specs.Shown.{part_of};
 ghost use Rattle.lsm_store.specs.views.Seen.{seen_shape};
 
 use crate::PartShape;
-use mvcc_key::{Cursor, Looks};
-use std::marker::Brand;
-use std::sync::ledger::{Blank, Ledger};
+use mvcc_key::{Cursor, next};
 
 /// What is shown of a part with so many names.
 pub(crate) fn shape_of<C: Cursor>(cursor: &mut C, count: usize) -> PartShape
@@ -17,24 +15,20 @@ pub(crate) fn shape_of<C: Cursor>(cursor: &mut C, count: usize) -> PartShape
 {
     PartShape {
         keys: count as u64,
-        clears: count_clears::<C, Brand>(cursor, count, Blank::new(1)),
+        clears: count_clears(cursor, count),
         ranges: false,
     }
 }
 
-/// How many of so many names are cleared, by a counter from the blank, of which nothing is told.
-fn count_clears<C: Cursor, L: Ledger>(cursor: &mut C, count: usize, blank: Blank) -> u64
+/// How many of so many names are cleared.
+fn count_clears<C: Cursor>(cursor: &mut C, count: usize) -> u64
     requires start { C.place cursor.old ≡ 0 }
     requires count { count ≡ length (C.points cursor.old) }
-    requires name { blank.name ≡ L.name }
-    requires parts { blank.parts ≡ L.parts }
-    requires some { 0 < blank.parts }
     ensures { result ≡ length (filter (λ p. not (is_some p.value)) (C.points cursor.old)) }
 {
-    let mut looks = Looks::<L>::new(blank);
     let mut clears = 0;
     for _ in 0..count {
-        cursor.next(&mut looks);
+        next(cursor);
         if cursor.value().is_none() {
             clears += 1;
         }
@@ -44,19 +38,9 @@ fn count_clears<C: Cursor, L: Ledger>(cursor: &mut C, count: usize, blank: Blank
 
 /// How many bytes the next so many entries of a cursor have in a run, or the greatest number.
 pub(crate) fn entries_len<C: Cursor>(cursor: &mut C, count: usize) -> usize {
-    sum_lens::<C, Brand>(cursor, count, Blank::new(1))
-}
-
-/// The same, by a counter from the blank, of which nothing is told.
-fn sum_lens<C: Cursor, L: Ledger>(cursor: &mut C, count: usize, blank: Blank) -> usize
-    requires name { blank.name ≡ L.name }
-    requires parts { blank.parts ≡ L.parts }
-    requires some { 0 < blank.parts }
-{
-    let mut looks = Looks::<L>::new(blank);
     let mut total: usize = 0;
     for _ in 0..count {
-        cursor.next(&mut looks);
+        next(cursor);
         let entry = field_len(cursor.key()).saturating_add(field_len(cursor.value()));
         total = total.saturating_add(entry).saturating_add(1);
     }

@@ -1,7 +1,7 @@
 //! The store of parts.
 ghost use Rattle.std.specs.Prelude.{◌≡◌, ◌≤◌, [], ◌∷◌, map, All, false, IsOk, IfOk, OnOk, OnErr};
 ghost use Rattle.mvcc_key.specs.views.SeenPoint.{point_of, points_of};
-ghost use Rattle.mem_table.specs.Entries.{IsBatch, IsStorable};
+ghost use Rattle.mvcc_key.specs.Batches.{IsBatch, HasPointsAlone, IsStorable};
 ghost use Rattle.lsm_store.specs.Parts.{after_batch, flushed, compacted, layout};
 ghost use Rattle.lsm_store.specs.Shown.{no_points, shown, with_batch, parts_of, stage_of};
 ghost use Rattle.lsm_store.specs.views.Changing.{changes_points};
@@ -16,8 +16,7 @@ use merge_cursor::{MergeCursor, VisibleCursor};
 use mvcc_key::{Batch, Cursor, Elements, OutOfMemory, PointOp};
 use run_block::{Room, Run, collect};
 use std::alloc::Global;
-use std::marker::{Brand, Model};
-use std::sync::ledger::Blank;
+use std::marker::Model;
 
 /// Stored pairs in parts: a memory table, which takes up what is written, and under it sorted runs, from the newest to the
 /// oldest (Pebble's memtable and sstables). Of each name the newest part counts. Contracts see it as the points of its parts,
@@ -54,9 +53,10 @@ impl Store {
     }
 
     /// Takes a batch up, whole or, where memory is wanting, not at all. Each name whose pair differs then has its new state in the
-    /// memory table; operations that leave what is seen as it is are dropped.
+    /// memory table; operations that leave what is seen as it is are dropped. The batch has no range operation yet.
     pub fn apply(&mut self, batch: Batch) -> Result<(), OutOfMemory>
-        requires { IsBatch batch }
+        requires batch { IsBatch batch }
+        requires points { HasPointsAlone batch }
         ensures shown { OnOk result (shown self.new ≡ with_batch (points_of batch.points) (shown self.old)) }
         ensures parts { OnOk result (parts_of self.new ≡ after_batch (stage_of self.old) (stage_of self.new) (parts_of self.old)) }
         ensures err { OnErr result (self.new ≡ self.old) }
@@ -82,7 +82,7 @@ impl Store {
         ensures err { OnErr result (self.new ≡ self.old) }
     {
         let place = self.table.find(op.key.as_slice());
-        if changes_at::<Brand>(&self.table, place, &self.runs, &op, Blank::new(1)) {
+        if changes_at(&self.table, place, &self.runs, &op) {
             self.table.put_at(place, op)
         } else {
             Ok(())
@@ -95,13 +95,13 @@ impl Store {
         ensures parts { OnOk result (parts_of self.new ≡ flushed (parts_of self.old)) }
         ensures err { OnErr result (self.new ≡ self.old) }
     {
-        if self.table.is_empty() {
+        if self.table.len() == 0 {
             return Ok(());
         }
         let points = self.table.len();
         let bytes = entries_len(&mut self.table.cursor(), points);
         let room = Room { points, bytes };
-        let run = collect(self.alloc, &mut self.table.cursor(), room)?;
+        let run = collect(self.alloc, &mut self.table.cursor(), &[], room)?;
         self.runs.insert(0, run)?;
         self.table = MemTable::new(self.alloc);
         Ok(())
@@ -136,7 +136,7 @@ impl Store {
         ensures lists { IfOk result (λ c. lists_behind ⟦<PartCursor<'a> as Cursor>⟧.points c ≡ self.now) }
         ensures parts { IfOk result (λ c. StandsOnParts ⟦<PartCursor<'a> as Cursor>⟧.is_part c) }
     {
-        Ok(VisibleCursor::of(MergeCursor::over(self.cursors()?)))
+        Ok(VisibleCursor::over(MergeCursor::over(self.cursors()?)))
     }
 
     /// The cursors of the parts.

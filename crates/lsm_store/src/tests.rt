@@ -1,11 +1,10 @@
 ghost use Rattle.std.specs.Prelude.{◌≡◌, ◌<◌, IfOk};
-ghost use Rattle.mem_table.specs.Entries.{IsBatch};
-
-mod rising;
+ghost use Rattle.mvcc_key.specs.Batches.{IsBatch, HasPointsAlone};
 
 use super::*;
-use mvcc_key::{Batch, Bytes, Cursor, Looks, OutOfMemory, PointOp, Timestamp, encode_key};
-use rising::Rising;
+use mvcc_key::{
+    Batch, BatchBuilder, Bytes, Cursor, Looks, OutOfMemory, PointOp, Timestamp, encode_key,
+};
 use std::alloc::Global;
 use std::marker::Brand;
 use std::sync::ledger::{Blank, Ledger};
@@ -46,13 +45,14 @@ fn op_of(alloc: Global, state: State) -> Result<PointOp, OutOfMemory> {
 
 /// The states, but for those that are out of order or cannot be stored.
 fn batch_of(alloc: Global, states: &[State]) -> Result<Batch, OutOfMemory>
-    ensures { IfOk result IsBatch }
+    ensures batch { IfOk result IsBatch }
+    ensures points { IfOk result HasPointsAlone }
 {
-    let mut rising = Rising::new(alloc);
+    let mut batch = BatchBuilder::new(alloc);
     for state in states {
-        let _ = rising.push(op_of(alloc, *state)?)?;
+        let _ = batch.push_point(op_of(alloc, *state)?)?;
     }
-    Ok(rising.into_batch())
+    Ok(batch.into_batch())
 }
 
 fn make(alloc: Global, store: &mut Store, step: Step) -> Result<(), OutOfMemory> {

@@ -1,6 +1,6 @@
 //! Several runs as one.
 ghost use Rattle.std.specs.Prelude.{◌≡◌, [], map, All, IfOk};
-ghost use Rattle.mem_table.specs.Entries.{IsStoredPoint};
+ghost use Rattle.mvcc_key.specs.Batches.{IsStoredPoint};
 ghost use Rattle.merge_cursor.specs.Merged.{merged};
 ghost use Rattle.merge_cursor.specs.Visible.{visible};
 
@@ -15,8 +15,8 @@ use std::alloc::Global;
 pub(crate) fn unite(alloc: Global, runs: &[Run]) -> Result<Run, OutOfMemory>
     ensures { IfOk result (λ run. run ≡ record { points = visible (merged (map (λ r. r.points) runs.now)); ranges = [] }) }
 {
-    let mut cursor = VisibleCursor::of(MergeCursor::over(cursors_over(alloc, runs)?));
-    collect(alloc, &mut cursor, room_of(runs))
+    let mut cursor = VisibleCursor::over(MergeCursor::over(cursors_over(alloc, runs)?));
+    collect(alloc, &mut cursor, &[], room_of(runs))
 }
 
 /// The cursors of the runs, before their first points.

@@ -1,6 +1,6 @@
 -- Entries by their operations and by their points.
 use Rattle.std.proofs.Common.{◌≡◌, ℕ, List, [], ◌∷◌, ◌++◌, take, refl, sym, ap, subst, ◌∙◌}
-use Rattle.std.specs.Prelude.{All, Result, Ok, Err, OnOk, OnErr}
+use Rattle.std.specs.Prelude.{Result, Ok, Err, OnOk, OnErr}
 use Rattle.std.specs.List.{AllByRecursion}
 use Rattle.std.specs.List.Sorted.{IsStrictlySortedBy}
 use Rattle.std.specs.declared.cmp.Ordering.{Ordering}
@@ -9,19 +9,18 @@ use Rattle.std.specs.Ordering.{match_ordering}
 use Rattle.std.specs.Cmp.{IsTotalOrder}
 use Rattle.std.proofs.lemmas.Cmp.{on_total}
 use Rattle.std.proofs.lemmas.List.{map-append}
-use Rattle.std.proofs.lemmas.List.Elements.{All-from_recursion, All-head, All-tail, All-map, All-weaker}
+use Rattle.std.proofs.lemmas.List.Elements.{All-from_recursion, recursion_from_All}
 use Rattle.mvcc_key.specs.Lists.{put_in_order, in_order}
-use Rattle.mvcc_key.specs.Points.{Point, point_cmp, AreEncodable}
-use Rattle.mvcc_key.specs.views.SeenPoint.{point_of, points_of, AreNamed}
+use Rattle.mvcc_key.specs.Points.{Point, point_cmp}
+use Rattle.mvcc_key.specs.views.SeenPoint.{point_of, points_of}
 use Rattle.mvcc_key.specs.declared.batch.PointOp.{PointOp}
 use Rattle.mvcc_key.proofs.OrderLaws.{name_cmp-total}
 use Rattle.mvcc_key.proofs.SortedLaws.{in_order-sorted}
 use Rattle.mvcc_key.proofs.PointLaws.{sorted-rising, rising-sorted}
-use Rattle.mvcc_key.proofs.SeenPointLaws.{encodable-named}
-use Rattle.mvcc_key.proofs.NamedLaws.{named_range}
-use Rattle.mem_table.specs.Entries.{IsStorable, AreEntries, IsStoredPoint}
+use Rattle.mvcc_key.proofs.EachLaws.{All-append, All-in_order}
+use Rattle.mvcc_key.specs.Batches.{IsStorable, AreEntries}
 use Rattle.mem_table.specs.views.Places.{name_of_op, op_cmp, newest_ops}
-use Rattle.mem_table.proofs.OrderedLaws.{each_at, each_append, each_take, each_front, sorted_take, sorted_front, each-in_order}
+use Rattle.mem_table.proofs.OrderedLaws.{each-take, each-front, sorted_take, sorted_front}
 
 -- the order of operations is total
 pub op_cmp-total : IsTotalOrder op_cmp
@@ -50,47 +49,26 @@ seen_sorted (op ∷ ops) s = (seen_each op ops s.0, seen_sorted ops s.1)
 
 -- ---- entries
 
--- what holds of all, by recursion
-pub each_of_all : {X : Type 0} (P : X → Type 0) (xs : List X) → All P xs → AllByRecursion P xs
-each_of_all P [] h = tt
-each_of_all P (x ∷ xs) h = (All-head P x xs h, each_of_all P xs (All-tail P x xs h))
-
 -- entries are in order
 pub sorted-entries : (ops : List PointOp) → AreEntries ops → IsStrictlySortedBy op_cmp ops
 sorted-entries ops e = seen_sorted ops (sorted-rising (points_of ops) e.rising)
 
 -- each is storable
 pub each-entries : (ops : List PointOp) → AreEntries ops → AllByRecursion IsStorable ops
-each-entries ops e = each_of_all IsStorable ops e.storable
+each-entries ops e = recursion_from_All IsStorable ops e.storable
 
 -- storable operations in order are entries
 pub entries-sorted : (ops : List PointOp) → AllByRecursion IsStorable ops → IsStrictlySortedBy op_cmp ops → AreEntries ops
 entries-sorted ops each s = record { storable = All-from_recursion IsStorable ops each; rising = rising-sorted (points_of ops) (sorted_seen ops s) }
 
--- each key is an encoded one
-pub named-entries : (ops : List PointOp) → AreEntries ops → AreNamed ops
-named-entries ops e i op is = (each_at IsStorable ops i op (each-entries ops e) is).name
-
--- their points have encodings
-pub encodable-entries : (ops : List PointOp) → AreEntries ops → AreEncodable (points_of ops)
-encodable-entries ops e = encodable-named ops (named-entries ops e)
-
--- a storable operation is a stored point
-pub stored_point : (op : PointOp) → IsStorable op → IsStoredPoint (point_of op)
-stored_point op h = record { some = h.some; short = h.short; range = named_range op.key h.name.read; value = h.value }
-
--- the points of entries are stored points
-pub stored-entries : (ops : List PointOp) → AreEntries ops → All IsStoredPoint (points_of ops)
-stored-entries ops e = All-map IsStoredPoint point_of ops (All-weaker IsStorable (λ op. IsStoredPoint (point_of op)) stored_point ops e.storable)
-
 -- the front of entries
 pub entries-take : (n : ℕ) (ops : List PointOp) → AreEntries ops → AreEntries (take n ops)
-entries-take n ops e = entries-sorted (take n ops) (each_take IsStorable n ops (each-entries ops e)) (sorted_take op_cmp n ops (sorted-entries ops e))
+entries-take n ops e = entries-sorted (take n ops) (each-take IsStorable n ops (each-entries ops e)) (sorted_take op_cmp n ops (sorted-entries ops e))
 
 -- entries without their end
 pub entries-front : (ops others : List PointOp) → AreEntries (ops ++ others) → AreEntries ops
 entries-front ops others e =
-    entries-sorted ops (each_front IsStorable ops others (each-entries (ops ++ others) e)) (sorted_front op_cmp ops others (sorted-entries (ops ++ others) e))
+    entries-sorted ops (each-front IsStorable ops others (each-entries (ops ++ others) e)) (sorted_front op_cmp ops others (sorted-entries (ops ++ others) e))
 
 -- one storable operation is entries
 pub entries-one : (op : PointOp) → IsStorable op → AreEntries (op ∷ [])
@@ -106,7 +84,7 @@ entries-either (Err e) now new old ok err n o = subst AreEntries (sym err) o
 pub entries-newest : (newer older : List PointOp) → AreEntries newer → AreEntries older → AreEntries (newest_ops newer older)
 entries-newest newer older n o =
     entries-sorted (newest_ops newer older)
-    (each-in_order op_cmp-total IsStorable (newer ++ older) (each_append IsStorable newer older (each-entries newer n) (each-entries older o)))
+    (All-in_order op_cmp IsStorable (newer ++ older) (All-append IsStorable newer older (each-entries newer n) (each-entries older o)))
     (in_order-sorted op_cmp-total (newer ++ older))
 
 -- ---- points of operations in order

@@ -10,7 +10,7 @@ use Rattle.std.proofs.lemmas.List.Elements.{All-take}
 use Rattle.std.proofs.lemmas.Option.{get_or_from_slice_get, slice_get-get_or}
 use Rattle.mvcc_key.specs.Encoded.{name_in}
 use Rattle.mvcc_key.specs.declared.batch.PointOp.{PointOp}
-use Rattle.mem_table.specs.Entries.{AreEntries}
+use Rattle.mvcc_key.specs.Batches.{AreEntries}
 use Rattle.mem_table.specs.views.Places.{op_cmp, no_op, listed, AreNumbersOf, IsStored, IsRangeOf}
 use Rattle.mem_table.proofs.EntryLaws.{op_cmp-total, sorted-entries, entries-take}
 use Rattle.mem_table.proofs.StepLaws.{IsStep, step-range}

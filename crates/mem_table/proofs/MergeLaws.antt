@@ -4,17 +4,17 @@ use Rattle.std.specs.Prelude.{◌≢◌, slice_get, slice_range, Some}
 use Rattle.std.specs.List.{AllByRecursion}
 use Rattle.std.proofs.lemmas.List.{length-take-le, take-append-drop, take-take, drop_all, append-nil, map-append}
 use Rattle.std.proofs.lemmas.Bool.{cases_lt}
-use Rattle.std.proofs.lemmas.List.Elements.{All-from_recursion}
+use Rattle.std.proofs.lemmas.List.Elements.{All-from_recursion, recursion_from_All}
 use Rattle.std.proofs.lemmas.Option.{slice_get_within}
 use Rattle.mvcc_key.specs.Encoded.{name_in}
 use Rattle.mvcc_key.specs.declared.batch.PointOp.{PointOp}
-use Rattle.mem_table.specs.Entries.{AreEntries}
+use Rattle.mvcc_key.specs.Batches.{AreEntries}
 use Rattle.mem_table.specs.views.Places.{op_cmp, newest_ops, listed, AreNumbersOf, IsStored, IsRangeOf}
-use Rattle.mem_table.proofs.OrderedLaws.{each_front}
+use Rattle.mem_table.proofs.OrderedLaws.{each-front}
 use Rattle.mvcc_key.proofs.SortedLaws.{in_order-same}
-use Rattle.mem_table.proofs.EntryLaws.{each_of_all, sorted-entries, entries-take, entries-front}
+use Rattle.mem_table.proofs.EntryLaws.{sorted-entries, entries-take, entries-front}
 use Rattle.mem_table.proofs.StepLaws.{IsStep, step-done}
-use Rattle.mem_table.proofs.NumberLaws.{AreApart, IsAmong, among-known, among-new, each_back, each_middle, front-parts, middle-one}
+use Rattle.mem_table.proofs.NumberLaws.{AreApart, IsAmong, among-known, among-new, each-back, each-middle, front-parts, middle-one}
 use Rattle.mem_table.proofs.ListedLaws.{length-listed, step-listed, take-listed, drop-listed, range-listed, listed-kept, listed-here, apart-entries}
 
 -- the numbers before `high` are those of the older operations that are left, and those from `end` on are settled
@@ -42,7 +42,7 @@ merging-first newer ops order count n o numbers within free held =
       older = subst AreEntries (sym front) o;
       ordered = within;
       within = omega arith;
-      below = subst (AllByRecursion (λ n. n < length ops)) (sym all) (each_of_all (λ n. n < length ops) (take count order) numbers);
+      below = subst (AllByRecursion (λ n. n < length ops)) (sym all) (recursion_from_All (λ n. n < length ops) (take count order) numbers);
       apart = subst AreApart (sym all) (apart-entries ops (take count order) o);
       free = ap (λ (us : List PointOp). length (newest_ops newer us)) front ∙ sym free;
       count = omega arith;
@@ -54,7 +54,7 @@ merging-first newer ops order count n o numbers within free held =
 -- the numbers that are left are those of operations
 pub merging-numbers : (newer ops : List PointOp) (order : List ℕ) (high end : ℕ) (whole : List PointOp) → IsMerging newer ops order high end whole
     → AreNumbersOf ops (take high order)
-merging-numbers newer ops order high end whole m = All-from_recursion (λ n. n < length ops) (take high order) (each_front (λ n. n < length ops) (take high order) (drop end order) m.below)
+merging-numbers newer ops order high end whole m = All-from_recursion (λ n. n < length ops) (take high order) (each-front (λ n. n < length ops) (take high order) (drop end order) m.below)
 
 -- the numbers that are left fall into those before `low`, one or none, and those from `behind` on
 record HasParts (front middle moved settled : List ℕ) (bound : ℕ) : Type 0 where
@@ -105,7 +105,7 @@ pub merging-known : (newer ops : List PointOp) (order : List ℕ) (high end low 
     → IsMerging newer ops order high end whole → low < behind → behind ≤ low + 1 → behind ≤ high → slice_get order low ≡ Some number → number < length ops
 merging-known newer ops order high end low behind number whole m some one within is =
     let parts = parts-known newer ops order high end low behind number whole m some one within is in
-    each_middle (λ n. n < length ops) (take low order) (slice_range order behind high ++ drop end order) number parts.below
+    each-middle (λ n. n < length ops) (take low order) (slice_range order behind high ++ drop end order) number parts.below
 
 -- the number stands among those that are left and those that are settled
 merging-among : (newer : List PointOp) (op : PointOp) (ops new : List PointOp) (order : List ℕ) (high end low behind number : ℕ) (whole : List PointOp)
@@ -173,11 +173,11 @@ merging-step before op ops new order next high end low behind number place whole
     let first : take low next ≡ take low order = front low (omega arith) in
     let parts : take low next ++ drop place next ≡ take low order ++ number ∷ (moved ++ settled) = ap₂ (λ (xs ys : List ℕ). xs ++ ys) first back in
     let kept_front : listed new (take low order) ≡ listed ops (take low order) =
-    listed-kept op number ops new (take low order) stored (each_front (λ n. n < length ops) (take low order) (moved ++ settled) among.kept)
-    (each_front (λ n. n ≢ number) (take low order) (moved ++ settled) among.others) in
+    listed-kept op number ops new (take low order) stored (each-front (λ n. n < length ops) (take low order) (moved ++ settled) among.kept)
+    (each-front (λ n. n ≢ number) (take low order) (moved ++ settled) among.others) in
     let kept_back : listed new (moved ++ settled) ≡ listed ops (moved ++ settled) =
-    listed-kept op number ops new (moved ++ settled) stored (each_back (λ n. n < length ops) (take low order) (moved ++ settled) among.kept)
-    (each_back (λ n. n ≢ number) (take low order) (moved ++ settled) among.others) in
+    listed-kept op number ops new (moved ++ settled) stored (each-back (λ n. n < length ops) (take low order) (moved ++ settled) among.kept)
+    (each-back (λ n. n ≢ number) (take low order) (moved ++ settled) among.others) in
     let seen_front : take low (listed new next) ≡ take low (listed ops order) =
     take-listed low new next ∙ ap (listed new) first ∙ kept_front ∙ sym (take-listed low ops order) in
     let seen_back : drop place (listed new next) ≡ op ∷ (slice_range (listed ops order) behind high ++ drop end (listed ops order)) =

@@ -23,19 +23,19 @@ each_without P [] ys x h = h.1
 each_without P (z ∷ xs) ys x h = (h.0, each_without P xs ys x h.1)
 
 -- what holds of all holds of one between
-pub each_middle : {X : Type 0} (P : X → Type 0) (xs ys : List X) (x : X) → AllByRecursion P (xs ++ x ∷ ys) → P x
-each_middle P [] ys x h = h.0
-each_middle P (z ∷ xs) ys x h = each_middle P xs ys x h.1
+pub each-middle : {X : Type 0} (P : X → Type 0) (xs ys : List X) (x : X) → AllByRecursion P (xs ++ x ∷ ys) → P x
+each-middle P [] ys x h = h.0
+each-middle P (z ∷ xs) ys x h = each-middle P xs ys x h.1
 
 -- what follows for each
-pub each_weaker : {X : Type 0} (P Q : X → Type 0) → ((x : X) → P x → Q x) → (xs : List X) → AllByRecursion P xs → AllByRecursion Q xs
-each_weaker P Q f [] h = tt
-each_weaker P Q f (x ∷ xs) h = (f x h.0, each_weaker P Q f xs h.1)
+pub each-weaker : {X : Type 0} (P Q : X → Type 0) → ((x : X) → P x → Q x) → (xs : List X) → AllByRecursion P xs → AllByRecursion Q xs
+each-weaker P Q f [] h = tt
+each-weaker P Q f (x ∷ xs) h = (f x h.0, each-weaker P Q f xs h.1)
 
 -- what holds of the whole holds of the back
-pub each_back : {X : Type 0} (P : X → Type 0) (xs ys : List X) → AllByRecursion P (xs ++ ys) → AllByRecursion P ys
-each_back P [] ys h = h
-each_back P (x ∷ xs) ys h = each_back P xs ys h.1
+pub each-back : {X : Type 0} (P : X → Type 0) (xs ys : List X) → AllByRecursion P (xs ++ ys) → AllByRecursion P ys
+each-back P [] ys h = h
+each-back P (x ∷ xs) ys h = each-back P xs ys h.1
 
 apart-insert : (xs ys : List ℕ) (n : ℕ) → AreApart (xs ++ ys) → AllByRecursion (λ m. m ≢ n) (xs ++ ys) → AreApart (xs ++ n ∷ ys)
 unfolding AreApart
@@ -45,7 +45,7 @@ apart-insert (x ∷ xs) ys n a others = (each_insert (λ m. m ≢ x) xs ys n (λ
 apart-others : (xs ys : List ℕ) (n : ℕ) → AreApart (xs ++ n ∷ ys) → AllByRecursion (λ m. m ≢ n) (xs ++ ys)
 unfolding AreApart
 apart-others [] ys n a = a.0
-apart-others (x ∷ xs) ys n a = ((λ e. each_middle (λ m. m ≢ x) xs ys n a.0 (sym e)), apart-others xs ys n a.1)
+apart-others (x ∷ xs) ys n a = ((λ e. each-middle (λ m. m ≢ x) xs ys n a.0 (sym e)), apart-others xs ys n a.1)
 
 -- ---- one number among the others
 
@@ -60,7 +60,7 @@ pub record IsAmong (xs ys : List ℕ) (number old bound : ℕ) : Type 0 where
 pub among-known : (xs ys : List ℕ) (number old bound : ℕ) → old ≤ bound → AllByRecursion (λ m. m < old) (xs ++ number ∷ ys) → AreApart (xs ++ number ∷ ys)
     → IsAmong xs ys number old bound
 among-known xs ys number old bound le below apart = record {
-  below = each_weaker (λ m. m < old) (λ m. m < bound) (λ m lt. omega arith) (xs ++ number ∷ ys) below;
+  below = each-weaker (λ m. m < old) (λ m. m < bound) (λ m lt. omega arith) (xs ++ number ∷ ys) below;
   apart = apart;
   others = apart-others xs ys number apart;
   kept = each_without (λ m. m < old) xs ys number below;
@@ -70,9 +70,9 @@ among-known xs ys number old bound le below apart = record {
 pub among-new : (xs ys : List ℕ) (number old bound : ℕ) → old ≤ bound → number ≡ old → number < bound → AllByRecursion (λ m. m < old) (xs ++ ys) → AreApart (xs ++ ys)
     → IsAmong xs ys number old bound
 among-new xs ys number old bound le is lt below apart =
-    let others : AllByRecursion (λ m. m ≢ number) (xs ++ ys) = each_weaker (λ m. m < old) (λ m. m ≢ number) (λ m under same. omega arith) (xs ++ ys) below in
+    let others : AllByRecursion (λ m. m ≢ number) (xs ++ ys) = each-weaker (λ m. m < old) (λ m. m ≢ number) (λ m under same. omega arith) (xs ++ ys) below in
     record {
-      below = each_insert (λ m. m < bound) xs ys number lt (each_weaker (λ m. m < old) (λ m. m < bound) (λ m under. omega arith) (xs ++ ys) below);
+      below = each_insert (λ m. m < bound) xs ys number lt (each-weaker (λ m. m < old) (λ m. m < bound) (λ m under. omega arith) (xs ++ ys) below);
       apart = apart-insert xs ys number apart others;
       others = others;
       kept = below;

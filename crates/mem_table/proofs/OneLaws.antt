@@ -5,16 +5,17 @@ use Rattle.std.specs.List.{AllByRecursion, insert}
 use Rattle.std.proofs.Math.Seq.{drop-cons}
 use Rattle.std.proofs.lemmas.List.{take-append-drop, map-append}
 use Rattle.std.proofs.lemmas.Option.{slice_get_within, get_or_from_slice_get}
+use Rattle.std.proofs.lemmas.List.Elements.{recursion_from_All}
 use Rattle.mvcc_key.specs.Lists.{put_in_order}
 use Rattle.mvcc_key.specs.Encoded.{name_in}
 use Rattle.mvcc_key.specs.declared.batch.PointOp.{PointOp}
-use Rattle.mem_table.specs.Entries.{AreEntries}
+use Rattle.mvcc_key.specs.Batches.{AreEntries}
 use Rattle.mem_table.specs.views.Places.{op_cmp, newest_ops, listed, AreNumbersOf, IsStored, IsRangeOf}
-use Rattle.mem_table.proofs.OrderedLaws.{each_front, put-range}
+use Rattle.mem_table.proofs.OrderedLaws.{each-front, put-range}
 use Rattle.mvcc_key.proofs.SortedLaws.{in_order-same}
-use Rattle.mem_table.proofs.EntryLaws.{op_cmp-total, each_of_all, sorted-entries}
+use Rattle.mem_table.proofs.EntryLaws.{op_cmp-total, sorted-entries}
 use Rattle.mem_table.proofs.RangeLaws.{range-op}
-use Rattle.mem_table.proofs.NumberLaws.{AreApart, IsAmong, among-known, among-new, each_back}
+use Rattle.mem_table.proofs.NumberLaws.{AreApart, IsAmong, among-known, among-new, each-back}
 use Rattle.mem_table.proofs.ListedLaws.{take-listed, drop-listed, listed-kept, listed-here, apart-entries}
 
 -- the newest of one operation and older ones
@@ -29,9 +30,9 @@ listed-among : (op : PointOp) (number : ℕ) (ops new : List PointOp) (xs ys : L
     → IsAmong xs ys number (length ops) (length new) → listed new (xs ++ number ∷ ys) ≡ listed ops xs ++ op ∷ listed ops ys
 listed-among op number ops new xs ys stored among =
     let front : listed new xs ≡ listed ops xs =
-    listed-kept op number ops new xs stored (each_front (λ n. n < length ops) xs ys among.kept) (each_front (λ n. n ≢ number) xs ys among.others) in
+    listed-kept op number ops new xs stored (each-front (λ n. n < length ops) xs ys among.kept) (each-front (λ n. n ≢ number) xs ys among.others) in
     let back : listed new ys ≡ listed ops ys =
-    listed-kept op number ops new ys stored (each_back (λ n. n < length ops) xs ys among.kept) (each_back (λ n. n ≢ number) xs ys among.others) in
+    listed-kept op number ops new ys stored (each-back (λ n. n < length ops) xs ys among.kept) (each-back (λ n. n ≢ number) xs ys among.others) in
     map-append _ xs (number ∷ ys)
     ∙ ap₂ (λ (us vs : List PointOp). us ++ vs) front (listed-here op number ops new ys stored ∙ ap (λ (us : List PointOp). op ∷ us) back)
 
@@ -64,7 +65,7 @@ one-known op number ops new order low behind numbers o range stored some is =
     ap (listed new) parts
     ∙ among-newest op number ops new order low behind o range stored
     (among-known (take low order) (drop behind order) number (length ops) (length new) stored.longer
-    (subst (AllByRecursion (λ n. n < length ops)) parts (each_of_all (λ n. n < length ops) order numbers))
+    (subst (AllByRecursion (λ n. n < length ops)) parts (recursion_from_All (λ n. n < length ops) order numbers))
     (subst AreApart parts (apart-entries ops order o)))
 
 -- an operation under a new number
@@ -76,5 +77,5 @@ one-new op number ops new order low behind numbers o range stored none is =
     ap (λ (n : ℕ). listed new (take low order ++ number ∷ drop n order)) none
     ∙ among-newest op number ops new order low behind o range stored
     (among-new (take low order) (drop behind order) number (length ops) (length new) stored.longer is (slice_get_within new number op stored.here)
-    (subst (AllByRecursion (λ n. n < length ops)) (sym parts) (each_of_all (λ n. n < length ops) order numbers))
+    (subst (AllByRecursion (λ n. n < length ops)) (sym parts) (recursion_from_All (λ n. n < length ops) order numbers))
     (subst AreApart (sym parts) (apart-entries ops order o)))

@@ -14,31 +14,26 @@ use Rattle.mvcc_key.proofs.SortedLaws.{put_in_order-first, in_order-same}
 -- ---- parts of a list
 
 -- what holds of each holds of each in front
-pub each_take : {X : Type 0} (P : X → Type 0) (n : ℕ) (xs : List X) → AllByRecursion P xs → AllByRecursion P (take n xs)
-each_take P zero xs h = tt
-each_take P (suc n) [] h = tt
-each_take P (suc n) (x ∷ xs) h = (h.0, each_take P n xs h.1)
-
--- what holds of each part holds of the whole
-pub each_append : {X : Type 0} (P : X → Type 0) (xs ys : List X) → AllByRecursion P xs → AllByRecursion P ys → AllByRecursion P (xs ++ ys)
-each_append P [] ys h k = k
-each_append P (x ∷ xs) ys h k = (h.0, each_append P xs ys h.1 k)
+pub each-take : {X : Type 0} (P : X → Type 0) (n : ℕ) (xs : List X) → AllByRecursion P xs → AllByRecursion P (take n xs)
+each-take P zero xs h = tt
+each-take P (suc n) [] h = tt
+each-take P (suc n) (x ∷ xs) h = (h.0, each-take P n xs h.1)
 
 -- what holds of the whole holds of the front
-pub each_front : {X : Type 0} (P : X → Type 0) (xs ys : List X) → AllByRecursion P (xs ++ ys) → AllByRecursion P xs
-each_front P [] ys h = tt
-each_front P (x ∷ xs) ys h = (h.0, each_front P xs ys h.1)
+pub each-front : {X : Type 0} (P : X → Type 0) (xs ys : List X) → AllByRecursion P (xs ++ ys) → AllByRecursion P xs
+each-front P [] ys h = tt
+each-front P (x ∷ xs) ys h = (h.0, each-front P xs ys h.1)
 
 -- it holds of the last
-pub each_last : {X : Type 0} (P : X → Type 0) (xs : List X) (y : X) → AllByRecursion P (xs ++ y ∷ []) → P y
-each_last P [] y h = h.0
-each_last P (x ∷ xs) y h = each_last P xs y h.1
+pub each-last : {X : Type 0} (P : X → Type 0) (xs : List X) (y : X) → AllByRecursion P (xs ++ y ∷ []) → P y
+each-last P [] y h = h.0
+each-last P (x ∷ xs) y h = each-last P xs y h.1
 
 -- the element at a place
-pub each_at : {X : Type 0} (P : X → Type 0) (xs : List X) (i : ℕ) (x : X) → AllByRecursion P xs → slice_get xs i ≡ Some x → P x
-each_at P [] i x h is = absurd cc
-each_at P (y ∷ ys) zero x h is = (let same : y ≡ x = cc in rw (← same) h.0)
-each_at P (y ∷ ys) (suc i) x h is = each_at P ys i x h.1 is
+pub each-at : {X : Type 0} (P : X → Type 0) (xs : List X) (i : ℕ) (x : X) → AllByRecursion P xs → slice_get xs i ≡ Some x → P x
+each-at P [] i x h is = absurd cc
+each-at P (y ∷ ys) zero x h is = (let same : y ≡ x = cc in rw (← same) h.0)
+each-at P (y ∷ ys) (suc i) x h is = each-at P ys i x h.1 is
 
 module _ {X : Type 0} (cmp : X → X → Ordering) where
   -- the front of a list in order is in order
@@ -46,13 +41,13 @@ module _ {X : Type 0} (cmp : X → X → Ordering) where
   unfolding IsStrictlySortedBy
   sorted_take zero xs s = tt
   sorted_take (suc n) [] s = tt
-  sorted_take (suc n) (x ∷ xs) s = (each_take _ n xs s.0, sorted_take n xs s.1)
+  sorted_take (suc n) (x ∷ xs) s = (each-take _ n xs s.0, sorted_take n xs s.1)
 
   -- without its end it is in order
   pub sorted_front : (xs ys : List X) → IsStrictlySortedBy cmp (xs ++ ys) → IsStrictlySortedBy cmp xs
   unfolding IsStrictlySortedBy
   sorted_front [] ys s = tt
-  sorted_front (x ∷ xs) ys s = (each_front _ xs ys s.0, sorted_front xs ys s.1)
+  sorted_front (x ∷ xs) ys s = (each-front _ xs ys s.0, sorted_front xs ys s.1)
 
 module _ {X : Type 0} {cmp : X → X → Ordering} (total : IsTotalOrder cmp) where
   -- the other way round
@@ -77,7 +72,7 @@ module _ {X : Type 0} {cmp : X → X → Ordering} (total : IsTotalOrder cmp) wh
   unfolding IsStrictlySortedBy
   below_up_to x y [] i s is h = absurd cc
   below_up_to x y (z ∷ zs) zero s is h = (let same : z ≡ y = cc in rw same h, tt)
-  below_up_to x y (z ∷ zs) (suc i) s is h = (total.trans z y x (each_at _ zs i y s.0 is) h, below_up_to x y zs i s.1 is h)
+  below_up_to x y (z ∷ zs) (suc i) s is h = (total.trans z y x (each-at _ zs i y s.0 is) h, below_up_to x y zs i s.1 is h)
 
   -- all from an element on that is above x are above it
   pub above_from : (x y : X) (xs : List X) (i : ℕ) → IsStrictlySortedBy cmp xs → slice_get xs i ≡ Some y → cmp x y ≡ Less
@@ -93,7 +88,7 @@ module _ {X : Type 0} {cmp : X → X → Ordering} (total : IsTotalOrder cmp) wh
   unfolding IsStrictlySortedBy
   below_tied x y [] i s is h = absurd cc
   below_tied x y (z ∷ zs) zero s is h = tt
-  below_tied x y (z ∷ zs) (suc i) s is h = (alike_right total x y z h ∙ each_at _ zs i y s.0 is, below_tied x y zs i s.1 is h)
+  below_tied x y (z ∷ zs) (suc i) s is h = (alike_right total x y z h ∙ each-at _ zs i y s.0 is, below_tied x y zs i s.1 is h)
 
   -- all behind an element that ties with x are above it
   pub above_tied : (x y : X) (xs : List X) (i : ℕ) → IsStrictlySortedBy cmp xs → slice_get xs i ≡ Some y → cmp x y ≡ Equal
@@ -154,23 +149,7 @@ module _ {X : Type 0} {cmp : X → X → Ordering} (total : IsTotalOrder cmp) wh
       ∙ ap (λ (us : List X). us ++ x ∷ drop high older) (sym (in_order-same cmp (take low older) (sorted_take cmp low older o)))
   newest-last (y ∷ newer) x older low high n o r =
       ap (put_in_order cmp y) (newest-last newer x older low high n.1 o r)
-      ∙ put-before y x (in_order cmp (newer ++ take low older)) (drop high older) (each_last _ newer x n.0)
-
-  -- ---- what stays of elements put in order
-
-  each_put : (P : X → Type 0) (x : X) (ys : List X) → P x → AllByRecursion P ys → AllByRecursion P (put_in_order cmp x ys)
-  each_put P x [] h a = (h, tt)
-  each_put P x (y ∷ ys) h a = by (cmp x y) (each_put P x ys h a.1)
-    where
-      by : (o : Ordering) → AllByRecursion P (put_in_order cmp x ys) → AllByRecursion P (match_ordering o (x ∷ y ∷ ys) (x ∷ ys) (y ∷ put_in_order cmp x ys))
-      by Less rest = (h, a)
-      by Equal rest = (h, a.1)
-      by Greater rest = (a.0, rest)
-
-  -- what holds of each holds of each in order
-  pub each-in_order : (P : X → Type 0) (xs : List X) → AllByRecursion P xs → AllByRecursion P (in_order cmp xs)
-  each-in_order P [] h = tt
-  each-in_order P (x ∷ xs) h = each_put P x (in_order cmp xs) h.0 (each-in_order P xs h.1)
+      ∙ put-before y x (in_order cmp (newer ++ take low older)) (drop high older) (each-last _ newer x n.0)
 
   put_no_shorter : (x : X) (ys : List X) → length ys ≤ length (put_in_order cmp x ys)
   put_no_shorter x [] = omega arith

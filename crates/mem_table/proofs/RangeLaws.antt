@@ -6,7 +6,7 @@ use Rattle.std.specs.declared.cmp.Ordering.TheVariants.{Less, Equal}
 use Rattle.mvcc_key.specs.Order.{name_cmp}
 use Rattle.mvcc_key.specs.Encoded.{name_in}
 use Rattle.mvcc_key.specs.declared.batch.PointOp.{PointOp}
-use Rattle.mem_table.specs.Entries.{AreEntries}
+use Rattle.mvcc_key.specs.Batches.{AreEntries}
 use Rattle.mem_table.specs.views.Places.{name_of_op, IsRangeOf}
 use Rattle.mem_table.proofs.OrderedLaws.{below_up_to, above_from, below_tied, above_tied, IsRange}
 use Rattle.mem_table.proofs.EntryLaws.{op_cmp-total, sorted-entries}

@@ -5,7 +5,7 @@ use Rattle.std.proofs.lemmas.List.{length-append, length-drop, length-take-le, t
 use Rattle.std.proofs.lemmas.Slice.{between_is}
 use Rattle.mvcc_key.specs.Encoded.{name_in}
 use Rattle.mvcc_key.specs.declared.batch.PointOp.{PointOp}
-use Rattle.mem_table.specs.Entries.{AreEntries}
+use Rattle.mvcc_key.specs.Batches.{AreEntries}
 use Rattle.mem_table.specs.views.Places.{newest_ops, IsRangeOf}
 use Rattle.mem_table.proofs.OrderedLaws.{IsRange, newest-last, newest_no_shorter}
 use Rattle.mem_table.proofs.EntryLaws.{op_cmp-total, sorted-entries, entries-take}

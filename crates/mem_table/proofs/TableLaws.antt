@@ -1,5 +1,6 @@
 -- A memory table after newer operations.
-use Rattle.std.proofs.Common.{◌≡◌, List, [], ◌++◌, sym, ap, subst, ◌∙◌, append-nil}
+use Rattle.std.proofs.Common.{◌≡◌, List, ◌++◌, sym, ap, subst, ◌∙◌}
+use Rattle.std.specs.Prelude.{Result, Ok, Err, IsOk, is_ok, if◌then◌else◌}
 use Rattle.mvcc_key.specs.views.SeenPoint.{points_of}
 use Rattle.mvcc_key.specs.declared.batch.PointOp.{PointOp}
 use Rattle.mvcc_key.specs.declared.batch.RangeOp.{RangeOp}
@@ -21,13 +22,17 @@ points-after batch now newer older ranges old is newer_is old_is =
     ∙ ap (λ (t : Table). newest_points (points_of batch.points ++ t.points)) old_is
 
 -- the table after the batch of these operations
-pub table-after : (batch : Batch) (now newer older : List PointOp) (ranges : List RangeOp) (old : Table) → now ≡ newest_ops newer older → newer ≡ batch.points
-    → batch.ranges ≡ [] → table_of older ranges ≡ old → table_of now ranges ≡ after_batch batch old
-table-after batch now newer older ranges old is newer_is none old_is =
-    let points = points-after batch now newer older ranges old is newer_is old_is in
-    let same : ranges ≡ old.ranges ++ batch.ranges =
-    ap (λ (t : Table). t.ranges) old_is ∙ sym (append-nil old.ranges) ∙ ap (λ (rs : List RangeOp). old.ranges ++ rs) (sym none) in
-    λ i. record { points = points i; ranges = same i }
+pub table-after : (batch : Batch) (now newer older : List PointOp) (after before : List RangeOp) (old : Table) → now ≡ newest_ops newer older → newer ≡ batch.points
+    → after ≡ before ++ batch.ranges → table_of older before ≡ old → table_of now after ≡ after_batch batch old
+table-after batch now newer older after before old is newer_is after_is old_is =
+    let points = points-after batch now newer older before old is newer_is old_is in
+    let ranges : after ≡ old.ranges ++ batch.ranges = after_is ∙ ap (λ (t : Table). t.ranges ++ batch.ranges) old_is in
+    λ i. record { points = points i; ranges = ranges i }
+
+-- what was put behind others, where there was room
+pub put_behind : {T E : Type 0} (r : Result T E) (now before more : List RangeOp) → IsOk r → now ≡ (if is_ok r then before ++ more else before) → now ≡ before ++ more
+put_behind (Ok x) now before more ok is = is
+put_behind (Err e) now before more ok is = absurd cc
 
 -- and what is known then
 pub newest-after : (batch : Batch) (now newer older : List PointOp) (ranges : List RangeOp) (old : Table) → now ≡ newest_ops newer older → newer ≡ batch.points

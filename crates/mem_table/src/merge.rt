@@ -1,7 +1,7 @@
 //! Newer operations merged into older ones, in place.
 ghost use Rattle.std.specs.Prelude.{ℕ, ◌≡◌, ◌≤◌, ◌<◌, ◌+◌, ◌-◌, [], ◌∷◌, ◌++◌, ◌^◌, length, take, drop, slice_range, slice_get, Some, IsOk, OnOk, OnErr, vec_len, vec_capacity};
 ghost use Rattle.mvcc_key.specs.Encoded.{name_in};
-ghost use Rattle.mem_table.specs.Entries.{AreEntries};
+ghost use Rattle.mvcc_key.specs.Batches.{AreEntries};
 ghost use Rattle.mem_table.specs.views.Places.{newest_ops, listed, AreNumbersOf, IsRangeOf, IsStored};
 
 use crate::place::range_of;

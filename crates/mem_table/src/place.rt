@@ -1,8 +1,7 @@
 //! Places of names among operations in order.
-ghost use Rattle.std.specs.Prelude.{◌≡◌, ◌<◌, length, slice_get, Some, IsOk};
-ghost use Rattle.mvcc_key.specs.KeyFormat.{name_of};
-ghost use Rattle.mvcc_key.specs.Encoded.{name_in};
-ghost use Rattle.mem_table.specs.Entries.{AreEntries};
+ghost use Rattle.std.specs.Prelude.{◌≡◌, ◌<◌, length, slice_get, Some};
+ghost use Rattle.mvcc_key.specs.Encoded.{name_in, IsName};
+ghost use Rattle.mvcc_key.specs.Batches.{AreEntries};
 ghost use Rattle.mem_table.specs.views.Places.{listed, AreNumbersOf, IsRangeOf};
 
 use mvcc_key::{PointOp, cmp_encoded};
@@ -30,7 +29,7 @@ pub(crate) fn op_at<'a>(ops: &'a [PointOp], order: &[u32], place: usize) -> &'a 
 pub(crate) fn range_of(ops: &[PointOp], order: &[u32], key: &[u8]) -> (usize, usize)
     requires numbers { AreNumbersOf ops.now order.now }
     requires entries { AreEntries (listed ops.now order.now) }
-    requires key { IsOk (name_of key.now) }
+    requires key { IsName key.now }
     ensures { IsRangeOf (name_in key.now) (listed ops.now order.now) result.0 result.1 }
 {
     let mut low = 0;

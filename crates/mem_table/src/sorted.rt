@@ -2,17 +2,16 @@
 ghost use Rattle.std.specs.Prelude.{◌≡◌, ◌<◌, ◌↔◌, [], ◌∷◌, OnOk, OnErr, IsOk, IsTrue, vec_len};
 ghost use Rattle.std.specs.Option.{option_map};
 ghost use Rattle.mvcc_key.specs.Order.{Name};
-ghost use Rattle.mvcc_key.specs.KeyFormat.{name_of};
-ghost use Rattle.mvcc_key.specs.Encoded.{name_in};
+ghost use Rattle.mvcc_key.specs.Encoded.{name_in, IsName};
 ghost use Rattle.mvcc_key.specs.Points.{AreEncodable};
 ghost use Rattle.mvcc_key.specs.views.SeenPoint.{points_of};
-ghost use Rattle.mem_table.specs.Entries.{AreEntries, IsStorable};
+ghost use Rattle.mvcc_key.specs.Batches.{AreEntries, IsStorable};
 ghost use Rattle.mem_table.specs.views.Places.{listed, AreNumbersOf};
 
 use crate::MemPlace;
 use crate::merge::{merge, put_one};
 use crate::place::{op_at, range_of};
-use mvcc_key::{OutOfMemory, PointOp, SortedPairs, head_in};
+use mvcc_key::{OutOfMemory, PointOp, SortedPairs, abbreviated_key};
 use std::alloc::Global;
 
 /// The point operations of a memory table: each name once, in order. A name keeps its number, so that a new one among them
@@ -65,7 +64,7 @@ impl SortedOps {
 
     /// The place of the name with this encoded key.
     pub(crate) fn find(&self, key: &[u8]) -> MemPlace
-        requires { IsOk (name_of key.now) }
+        requires { IsName key.now }
         ensures { IsPlaceOf (name_in key.now) (points_held self.now) result }
     {
         let (low, behind) = range_of(&self.ops, &self.order, key);
@@ -114,9 +113,9 @@ impl SortedPairs for SortedOps {
         op_at(&self.ops, &self.order, index).key.as_slice()
     }
 
-    fn head(&self, index: usize) -> u64 {
+    fn abbreviated_key(&self, index: usize) -> u64 {
         let op = op_at(&self.ops, &self.order, index);
-        head_in(op.key.as_slice())
+        abbreviated_key(op.key.as_slice())
     }
 
     fn value(&self, index: usize) -> Option<&[u8]> {

@@ -2,11 +2,10 @@
 ghost use Rattle.std.specs.Prelude.{◌≡◌, ◌<◌, ◌↔◌, [], ◌∷◌, length, All, OnOk, OnErr, IsOk, IsTrue};
 ghost use Rattle.std.specs.Option.{option_map};
 ghost use Rattle.mvcc_key.specs.Order.{Name};
-ghost use Rattle.mvcc_key.specs.KeyFormat.{name_of};
-ghost use Rattle.mvcc_key.specs.Encoded.{name_in};
+ghost use Rattle.mvcc_key.specs.Encoded.{name_in, IsName};
 ghost use Rattle.mvcc_key.specs.Points.{IsRising};
 ghost use Rattle.mvcc_key.specs.views.SeenPoint.{points_of};
-ghost use Rattle.mem_table.specs.Entries.{IsBatch, IsStorable, IsStoredPoint};
+ghost use Rattle.mvcc_key.specs.Batches.{IsBatch, IsStorable, IsStorableRange, IsStoredPoint};
 ghost use Rattle.mem_table.specs.views.Places.{IsPlaceOf, IsPlace};
 ghost use Rattle.mem_table.specs.Table.{empty_table, batch_of_one, after_batch, state_of, ShowsNewest};
 
@@ -18,14 +17,17 @@ use std::marker::Model;
 /// A cursor over the points of a memory table, in both directions. It is a part's cursor: a cleared name has no value.
 pub type MemCursor<'a> = PairsCursor<'a, SortedOps>;
 
-/// What was written since the last run: of each name its newest state, set or cleared, in the order of stored pairs.
+/// What was written since the last run: of each name its newest state, set or cleared, in the order of stored pairs, and the range
+/// operations in the order in which they came.
 ///
 /// After a batch that sets b, and one that sets a and clears b, the table holds a with its value, and b with none: the clear
-/// stays, since an older run may set b.
+/// stays, since an older run may set b. After a batch that sets a range tombstone over a to c, and one that removes it, the
+/// table holds both operations, since the removal may reach into an older run.
 #[derive(Drop)]
 pub struct MemTable {
     points: SortedOps,
     ranges: Vec<RangeOp>,
+    ghost storable: { All IsStorableRange ranges.items },
 }
 
 impl Model for MemTable {
@@ -48,7 +50,8 @@ impl MemTable {
         }
     }
 
-    /// Takes a batch up, whole or, where memory is wanting, not at all. The batch's state of a name replaces the older one.
+    /// Takes a batch up, whole or, where memory is wanting, not at all. The batch's state of a name replaces the older one, and its
+    /// range operations come behind those that were there.
     pub fn apply(&mut self, batch: Batch) -> Result<(), OutOfMemory>
         requires { IsBatch batch }
         ensures ok { OnOk result (self.new ≡ after_batch batch self.old) }
@@ -56,13 +59,18 @@ impl MemTable {
             (ShowsNewest (points_of batch.points) self.old.points self.new.points) }
         ensures err { OnErr result (self.new ≡ self.old) }
     {
-        self.points.apply(batch.points.into_vec())
+        let Batch { points, ranges } = batch;
+        let mut ranges = ranges.into_vec();
+        self.ranges.reserve(ranges.len())?;
+        self.points.apply(points.into_vec())?;
+        self.ranges.append(&mut ranges).unwrap();
+        Ok(())
     }
 
     /// Where the name with this encoded key stands, found by halving. The place is good for [`value_at`](MemTable::value_at)
     /// and then for [`put_at`](MemTable::put_at), so that the name is sought once.
     pub fn find(&self, key: &[u8]) -> MemPlace
-        requires { IsOk (name_of key.now) }
+        requires { IsName key.now }
         ensures place { IsPlaceOf (name_in key.now) self.now.points result }
         ensures rising { IsRising self.now.points }
     {
@@ -99,11 +107,11 @@ impl MemTable {
         self.points.len()
     }
 
-    /// Whether the table has no point.
+    /// Whether there is neither a point nor a range operation.
     pub fn is_empty(&self) -> bool
-        ensures { IsTrue result ↔ (self.now.points ≡ []) }
+        ensures { IsTrue result ↔ ((self.now.points ≡ []) × (self.now.ranges ≡ [])) }
     {
-        self.points.is_empty()
+        self.points.is_empty() && self.ranges.is_empty()
     }
 
     /// A cursor before the first point.
@@ -116,9 +124,10 @@ impl MemTable {
         PairsCursor::over(&self.points)
     }
 
-    /// The range operations in the order in which they came. There are none yet, since no batch has one.
+    /// The range operations in the order in which they came.
     pub fn range_ops(&self) -> &[RangeOp]
-        ensures { result.now ≡ self.now.ranges }
+        ensures ops { result.now ≡ self.now.ranges }
+        ensures storable { All IsStorableRange self.now.ranges }
     {
         self.ranges.as_slice()
     }

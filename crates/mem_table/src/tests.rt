@@ -1,13 +1,11 @@
 ghost use Rattle.std.specs.Prelude.{◌≡◌, ◌<◌, IfOk};
-ghost use Rattle.mem_table.specs.Entries.{IsBatch};
-
-mod rising;
+ghost use Rattle.mvcc_key.specs.Batches.{IsBatch};
 
 use super::*;
 use mvcc_key::{
-    Batch, Bytes, Cursor, Looks, OutOfMemory, PointOp, Timestamp, decode_key, encode_key,
+    Batch, BatchBuilder, Bytes, Cursor, Key, Looks, OutOfMemory, PointOp, RangeOp, Timestamp,
+    decode_key, encode_key,
 };
-use rising::{Rising, is_storable};
 use std::alloc::Global;
 use std::marker::Brand;
 use std::sync::ledger::{Blank, Ledger};
@@ -33,21 +31,41 @@ fn op_of(alloc: Global, state: State) -> Result<PointOp, OutOfMemory> {
     Ok(PointOp { key, value })
 }
 
-/// The states, but for those that are out of order or cannot be stored.
-fn batch_of(alloc: Global, states: &[State]) -> Result<Batch, OutOfMemory>
+/// A start, an end, a wall time, and whether a tombstone is set over them, or removed.
+type Range = (&'static [u8], &'static [u8], u64, bool);
+
+fn range_of(alloc: Global, range: Range) -> Result<RangeOp, OutOfMemory> {
+    let (start, end, wall, is_set) = range;
+    Ok(RangeOp {
+        start: Key::copy(alloc, start)?,
+        end: Key::copy(alloc, end)?,
+        ts: Timestamp::new(wall, 0).unwrap_or(Timestamp::NONE),
+        set: if is_set {
+            Some(Bytes::new(alloc))
+        } else {
+            None
+        },
+    })
+}
+
+/// The states and the range operations, but for those that are out of order or cannot be stored.
+fn batch_of(alloc: Global, states: &[State], ranges: &[Range]) -> Result<Batch, OutOfMemory>
     ensures { IfOk result IsBatch }
 {
-    let mut rising = Rising::new(alloc);
+    let mut batch = BatchBuilder::new(alloc);
     for state in states {
-        let _ = rising.push(op_of(alloc, *state)?)?;
+        let _ = batch.push_point(op_of(alloc, *state)?)?;
     }
-    Ok(rising.into_batch())
+    for range in ranges {
+        let _ = batch.push_range(range_of(alloc, *range)?)?;
+    }
+    Ok(batch.into_batch())
 }
 
 fn table_of(alloc: Global, batches: &[&[State]]) -> Result<MemTable, OutOfMemory> {
     let mut table = MemTable::new(alloc);
     for states in batches {
-        table.apply(batch_of(alloc, states)?)?;
+        table.apply(batch_of(alloc, states, &[])?)?;
     }
     Ok(table)
 }
@@ -64,7 +82,7 @@ fn placed(alloc: Global, batches: &[&[State]]) -> Result<MemTable, OutOfMemory> 
 }
 
 fn put(table: &mut MemTable, op: PointOp) -> Result<(), OutOfMemory> {
-    if !is_storable(&op) {
+    if !op.is_storable() {
         return Ok(());
     }
     let place = table.find(op.key.as_slice());
@@ -288,5 +306,95 @@ fn keys_are_found(rt: HostRuntime) -> Result<(), Fail> {
     for (key, wall, from, below) in cases {
         assert!(rt; finds::<Brand>(rt.alloc(), &table, (key, wall), from, below, Blank::new(1))?);
     }
+    Ok(())
+}
+
+fn is_range(op: &RangeOp, range: Range) -> bool {
+    let (start, end, wall, is_set) = range;
+    op.start.bytes() == start
+        && op.end.bytes() == end
+        && (op.ts.wall(), op.ts.logical()) == (wall, 0)
+        && op.set.is_some() == is_set
+}
+
+fn has_ranges(table: &MemTable, ranges: &[Range]) -> bool {
+    let ops = table.range_ops();
+    let mut same = ops.len() == ranges.len();
+    for (op, range) in ops.iter().zip(ranges.iter()) {
+        same = is_range(op, *range) && same;
+    }
+    same
+}
+
+/// Batches of states and range operations, oldest first.
+const MIXED: [(&[State], &[Range]); 4] = [
+    (&[(b"c", 1, Some(b"x"))], &[(b"b", b"e", 5, true)]),
+    (&[], &[(b"a", b"d", 6, true), (b"b", b"c", 5, false)]),
+    (&[(b"a", 2, Some(b"y")), (b"c", 1, None)], &[]),
+    (&[], &[(b"a", b"d", 6, true)]),
+];
+
+/// Their states, and their range operations in the order in which they came.
+const STATES: [State; 2] = [(b"a", 2, Some(b"y")), (b"c", 1, None)];
+
+const RANGES: [Range; 4] = [
+    (b"b", b"e", 5, true),
+    (b"a", b"d", 6, true),
+    (b"b", b"c", 5, false),
+    (b"a", b"d", 6, true),
+];
+
+#[test]
+fn range_operations_stay_in_order(rt: HostRuntime) -> Result<(), Fail> {
+    let alloc = rt.alloc();
+    let mut table = MemTable::new(alloc);
+    for (states, ranges) in MIXED {
+        table.apply(batch_of(alloc, states, ranges)?)?;
+    }
+    assert!(rt; has_ranges(&table, &RANGES));
+    assert!(rt; walks::<Brand>(alloc, &table, &STATES, Blank::new(1))?);
+    assert!(rt; !table.is_empty());
+    Ok(())
+}
+
+#[test]
+fn operations_alone_are_held(rt: HostRuntime) -> Result<(), Fail> {
+    let alloc = rt.alloc();
+    let mut table = MemTable::new(alloc);
+    let refused: &[Range] = &[(b"b", b"b", 5, true), (b"a", b"b", 0, true)];
+    table.apply(batch_of(alloc, &[], refused)?)?;
+    assert!(rt; table.is_empty());
+    table.apply(batch_of(alloc, &[], &RANGES)?)?;
+    assert!(rt; has_ranges(&table, &RANGES) && table.len() == 0 && !table.is_empty());
+    assert!(rt; walks::<Brand>(alloc, &table, &[], Blank::new(1))?);
+    Ok(())
+}
+
+/// Whether a batch that is refused leaves the table as it was, and is taken up when it comes again.
+fn takes_up_or_leaves(
+    alloc: Global,
+    table: &mut MemTable,
+    batch: (&[State], &[Range]),
+) -> Result<bool, OutOfMemory> {
+    let first = batch_of(alloc, batch.0, batch.1)?;
+    let again = batch_of(alloc, batch.0, batch.1)?;
+    let before = (table.len(), table.range_ops().len());
+    if table.apply(first).is_ok() {
+        return Ok(true);
+    }
+    let left = (table.len(), table.range_ops().len()) == before;
+    table.apply(again)?;
+    Ok(left)
+}
+
+/// Meant to be tried with each allocation failing in turn, too.
+#[test]
+fn a_refused_batch_leaves_the_table(rt: HostRuntime) -> Result<(), Fail> {
+    let mut table = MemTable::new(rt.alloc());
+    for batch in MIXED {
+        assert!(rt; takes_up_or_leaves(rt.alloc(), &mut table, batch)?);
+    }
+    assert!(rt; has_ranges(&table, &RANGES));
+    assert!(rt; walks::<Brand>(rt.alloc(), &table, &STATES, Blank::new(1))?);
     Ok(())
 }

@@ -9,7 +9,7 @@ use Rattle.mvcc_key.specs.Order.{Name, name_cmp, is_same_name}
 use Rattle.mvcc_key.specs.Points.{Point}
 use Rattle.mvcc_key.proofs.OrderLaws.{name_cmp-total, name_cmp-IsAntisymmetric}
 use Rattle.merge_cursor.specs.views.Standing.{cut_of, leads}
-use Rattle.merge_cursor.proofs.OrderLaws.{less_of, back_greater, back_less, one_name}
+use Rattle.merge_cursor.proofs.OrderLaws.{less_of, back-greater, back-less, is_same_name-one}
 use Rattle.merge_cursor.proofs.LeadingLaws.{refused}
 use Rattle.merge_cursor.proofs.CutLaws.{IsCut, IsFront, IsLast}
 
@@ -24,7 +24,7 @@ behind_below cut a b c h k = by (name_cmp a b) refl
     by : (o : Ordering) → name_cmp a b ≡ o → name_cmp a b ≡ Less
     by Less is = is
     by Equal is = absurd (apart cut a b h k (name_cmp-IsAntisymmetric a b is))
-    by Greater is = absurd (let yes = c.down b a (back_less a b is) h in cc)
+    by Greater is = absurd (let yes = c.down b a (back-less a b is) h in cc)
 
 -- of three names, where neither of two neighbours falls the first does not stand above the last
 no_fall : (a b c : Name) → is_lt (name_cmp b a) ≡ false → is_lt (name_cmp c b) ≡ false → is_lt (name_cmp c a) ≡ false
@@ -36,7 +36,7 @@ no_fall a b c h k = refused (is_lt (name_cmp c a)) (λ l. by (less_of (name_cmp 
         (let same : b ≡ a = name_cmp-IsAntisymmetric b a is in
         let yes : is_lt (name_cmp c b) ≡ true = rw same (ap is_lt l) in
         cc)
-    by l Greater is = (let yes : is_lt (name_cmp c b) ≡ true = ap is_lt (name_cmp-total.trans c a b l (back_less b a is)) in cc)
+    by l Greater is = (let yes : is_lt (name_cmp c b) ≡ true = ap is_lt (name_cmp-total.trans c a b l (back-less b a is)) in cc)
 
 -- a name that another is not below stands up to it
 le_of : (a b : Name) → is_lt (name_cmp b a) ≡ false → is_le (name_cmp a b) ≡ true
@@ -45,11 +45,11 @@ le_of a b h = by (name_cmp a b) refl
     by : (o : Ordering) → name_cmp a b ≡ o → is_le (name_cmp a b) ≡ true
     by Less is = ap is_le is
     by Equal is = ap is_le is
-    by Greater is = absurd (let yes : is_lt (name_cmp b a) ≡ true = ap is_lt (back_less a b is) in cc)
+    by Greater is = absurd (let yes : is_lt (name_cmp b a) ≡ true = ap is_lt (back-less a b is) in cc)
 
 -- a name above another does not stand up to it
 not_le : (a b : Name) → name_cmp b a ≡ Less → is_le (name_cmp a b) ≡ false
-not_le a b h = ap is_le (back_greater b a h)
+not_le a b h = ap is_le (back-greater b a h)
 
 -- the first of the points in front is in front
 abbrev pub InFront : (Name → Bool) → Option Point → Type 0
@@ -94,12 +94,12 @@ tie_of a b h k = by (name_cmp a b) refl
     by : (o : Ordering) → name_cmp a b ≡ o → is_same_name a b ≡ true
     by Less is = absurd (let yes : is_lt (name_cmp a b) ≡ true = ap is_lt is in cc)
     by Equal is = ap is_eq is
-    by Greater is = absurd (let yes : is_lt (name_cmp b a) ≡ true = ap is_lt (back_less a b is) in cc)
+    by Greater is = absurd (let yes : is_lt (name_cmp b a) ≡ true = ap is_lt (back-less a b is) in cc)
 
 -- a list whose first point in front does not have the name of the first of all has it nowhere
 pub lacks-front : (cut : Name → Bool) (q : Point) (h : Option Point) (ps : List Point) → cut q.name ≡ false → IsFront cut h ps → leads true h (Some q) ≡ false
     → ((t : Point) → h ≡ Some t → is_same_name t.name q.name ≡ false) → (i : ℕ) (r : Point) → slice_get ps i ≡ Some r → is_same_name r.name q.name ≡ false
-lacks-front cut q h ps b f l other i r is = refused (is_same_name r.name q.name) (λ same. by h f l other (one_name r.name q.name same))
+lacks-front cut q h ps b f l other i r is = refused (is_same_name r.name q.name) (λ same. by h f l other (is_same_name-one r.name q.name same))
   where
     by : (o : Option Point) → IsFront cut o ps → leads true o (Some q) ≡ false → ((t : Point) → o ≡ Some t → is_same_name t.name q.name ≡ false) → r.name ≡ q.name → ⊥
     by None g k no_other same = apart cut r.name q.name (g i r is) b same
@@ -113,7 +113,7 @@ lacks-front cut q h ps b f l other i r is = refused (is_same_name r.name q.name)
 -- the same by the last points behind
 pub lacks-last : (cut : Name → Bool) (q : Point) (h : Option Point) (ps : List Point) → cut q.name ≡ true → IsLast cut h ps → leads false h (Some q) ≡ false
     → ((t : Point) → h ≡ Some t → is_same_name t.name q.name ≡ false) → (i : ℕ) (r : Point) → slice_get ps i ≡ Some r → is_same_name r.name q.name ≡ false
-lacks-last cut q h ps b f l other i r is = refused (is_same_name r.name q.name) (λ same. by h f l other (one_name r.name q.name same))
+lacks-last cut q h ps b f l other i r is = refused (is_same_name r.name q.name) (λ same. by h f l other (is_same_name-one r.name q.name same))
   where
     by : (o : Option Point) → IsLast cut o ps → leads false o (Some q) ≡ false → ((t : Point) → o ≡ Some t → is_same_name t.name q.name ≡ false) → r.name ≡ q.name → ⊥
     by None g k no_other same = apart cut q.name r.name b (g i r is) (sym same)

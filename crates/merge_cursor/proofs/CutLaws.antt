@@ -13,10 +13,10 @@ use Rattle.std.proofs.lemmas.Option.{slice_get_within}
 use Rattle.mvcc_key.specs.Order.{Name, name_cmp}
 use Rattle.mvcc_key.specs.Points.{Point, IsRising, point_at, count_below}
 use Rattle.mvcc_key.proofs.OrderLaws.{name_cmp-total}
-use Rattle.mvcc_key.proofs.PointLaws.{rising_rest, rising_first, point_at-next, point_at-none}
+use Rattle.mvcc_key.proofs.PointLaws.{rising_rest, rising-first, point_at-next, point_at-none}
 use Rattle.merge_cursor.specs.views.Standing.{cut_of, count_in}
 use Rattle.merge_cursor.specs.views.Moves.{cut_past, cut_before}
-use Rattle.merge_cursor.proofs.OrderLaws.{less_of, back_greater}
+use Rattle.merge_cursor.proofs.OrderLaws.{less_of, back-greater}
 use Rattle.merge_cursor.proofs.LeadingLaws.{refused}
 
 -- ---- cuts
@@ -137,7 +137,7 @@ placed cut (p ∷ ps) c rising = by (cut p.name) refl (placed cut ps c (rising_r
     })
       where
         later : (i : ℕ) (q : Point) → slice_get ps i ≡ Some q → cut q.name ≡ false
-        later i q is = refused (cut q.name) (λ k. (let yes = c.down p.name q.name (rising_first (λ (r : Point). r.name) p ps rising i q is) k in cc))
+        later i q is = refused (cut q.name) (λ k. (let yes = c.down p.name q.name (rising-first (λ (r : Point). r.name) p ps rising i q is) k in cc))
 
         none : count_in cut (p ∷ ps) ≡ 0
         none = count_in-no cut p ps h ∙ none_in cut ps later
@@ -177,7 +177,7 @@ front-at cut ps (Some q) c rising at = (p.above (count_in cut ps) q (omega arith
     others i r is not =
         elim (cases_order (count_in cut ps) i) [
           | inl same ↦ (let one : Some r ≡ Some q = sym is ∙ ap (slice_get ps) (sym same) ∙ here in let point : r ≡ q = cc in rw point (ap is_lt (tied_itself name_cmp-total q.name)))
-          | inr (inl before) ↦ ap is_lt (back_greater q.name r.name (rising (count_in cut ps) i q r before here is))
+          | inr (inl before) ↦ ap is_lt (back-greater q.name r.name (rising (count_in cut ps) i q r before here is))
           | inr (inr behind) ↦ absurd (let yes = p.below i r behind is in cc)
         ]
 
@@ -194,7 +194,7 @@ last-at cut ps o c rising at = by (count_in cut ps) o (placed cut ps c rising) a
           p.below n q (omega arith) here,
           λ i r there yes. elim (cases_order i n) [
             | inl same ↦ (let one : Some r ≡ Some q = sym there ∙ ap (slice_get ps) same ∙ here in let point : r ≡ q = cc in rw point (ap is_lt (tied_itself name_cmp-total q.name)))
-            | inr (inl before) ↦ ap is_lt (back_greater r.name q.name (rising i n r q before there here))
+            | inr (inl before) ↦ ap is_lt (back-greater r.name q.name (rising i n r q before there here))
             | inr (inr behind) ↦ absurd (let not = p.above i r (omega arith) there in cc)
           ],
         )

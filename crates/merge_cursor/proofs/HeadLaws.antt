@@ -15,7 +15,7 @@ use Rattle.mvcc_key.proofs.KeyFormatLaws.{name_of-encoded_name}
 use Rattle.mvcc_key.proofs.NamedLaws.{named-encoded}
 use Rattle.mvcc_key.proofs.PointLaws.{point_at-next}
 use Rattle.merge_cursor.specs.views.Moves.{is_at}
-use Rattle.merge_cursor.proofs.OrderLaws.{same_itself, one_name}
+use Rattle.merge_cursor.proofs.OrderLaws.{is_same_name-itself, is_same_name-one}
 use Rattle.merge_cursor.proofs.LeadingLaws.{refused}
 use Rattle.merge_cursor.specs.views.Standing.{Standing, standings, head, heads, head_of, leads}
 
@@ -83,10 +83,10 @@ is_at-bytes points k key other b e name is test =
     by : (r : Bool) → Decides r (other ≡ key) → is_same_name h.point.name (name_in key) ≡ r
     by true d =
         let same : name_in key ≡ h.point.name = ap name_in (sym (d.0 refl)) ∙ head_name points k other h in
-        rw same (same_itself h.point.name)
+        rw same (is_same_name-itself h.point.name)
     by false d =
         refused (is_same_name h.point.name (name_in key)) (λ one.
-        (let same : other ≡ key = sym h.spelled ∙ ap encoded_name (one_name h.point.name (name_in key) one) ∙ name.spelled in
+        (let same : other ≡ key = sym h.spelled ∙ ap encoded_name (is_same_name-one h.point.name (name_in key) one) ∙ name.spelled in
         let yes = d.1 same in
         cc))
 

@@ -8,7 +8,7 @@ use Rattle.std.proofs.lemmas.Bool.{cases_order}
 use Rattle.mvcc_key.specs.Order.{is_same_name}
 use Rattle.mvcc_key.specs.Points.{Point}
 use Rattle.merge_cursor.specs.views.Standing.{head_of, leads, IsLeading}
-use Rattle.merge_cursor.proofs.OrderLaws.{precedes-trans, precedes-itself, one_name}
+use Rattle.merge_cursor.proofs.OrderLaws.{precedes-trans, precedes-itself, is_same_name-one}
 
 -- what comes before one that comes before a third comes before it
 leads-trans : (ahead : Bool) (a b c : Option Point) → leads ahead a b ≡ true → leads ahead b c ≡ true → leads ahead a c ≡ true
@@ -72,7 +72,7 @@ leading-better ahead points i n lt so_far better = record {
   first = λ j p q before under at here. refused _ (λ h.
       (let no = so_far.least j before in
       let ahead_of : leads ahead (Some q) (head_of points i) ≡ true = rw (← here) better in
-      let yes : leads ahead (head_of points j) (head_of points i) ≡ true = rw at (leads-same ahead p q (head_of points i) (one_name p.name q.name h) ahead_of) in
+      let yes : leads ahead (head_of points j) (head_of points i) ≡ true = rw at (leads-same ahead p q (head_of points i) (is_same_name-one p.name q.name h) ahead_of) in
       cc));
 }
 

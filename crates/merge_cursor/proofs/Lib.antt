@@ -6,7 +6,7 @@ pub mod PassLaws
 pub mod CutLaws
 pub mod AgreeLaws
 pub mod MergedLaws
-pub mod SettleLaws
+pub mod AlignLaws
 pub mod ShownLaws
 pub mod StepLaws
 pub mod MergeLaws

@@ -11,15 +11,15 @@ use Rattle.mvcc_key.specs.Order.{Name}
 use Rattle.mvcc_key.specs.views.Looks.{bits}
 use Rattle.mvcc_key.specs.Points.{Point, IsRising, AreEncodable, point_at, count_below}
 use Rattle.merge_cursor.specs.Merged.{merged, seek_looks, entries_below, entries_before}
-use Rattle.merge_cursor.specs.views.Standing.{Standing, standing, standings, lists_of, heads, head_of, cut_of, count_in, positioned, IsLeading, IsSettled, merged_place, place_in-le}
+use Rattle.merge_cursor.specs.views.Standing.{Standing, standing, standings, lists_of, heads, head_of, cut_of, count_in, positioned, IsLeading, IsAligned, merged_place, place_in-le}
 use Rattle.merge_cursor.specs.declared.moves.Move.TheVariants.{SeekGe}
 use Rattle.merge_cursor.specs.views.Moves.{looks_of, cut_past}
 use Rattle.merge_cursor.proofs.CutLaws.{IsCut, count_in-below, count_in-all, count_in-none}
-use Rattle.merge_cursor.proofs.PassLaws.{each_of_all}
+use Rattle.merge_cursor.proofs.PassLaws.{each-of_all}
 use Rattle.merge_cursor.proofs.HeadLaws.{head_of-part}
 use Rattle.merge_cursor.proofs.MergedLaws.{encodable-merged}
 use Rattle.merge_cursor.proofs.ShownLaws.{rising-standings, below, shown}
-use Rattle.merge_cursor.proofs.StepLaws.{current_none, After, after}
+use Rattle.merge_cursor.proofs.StepLaws.{current-none, After, after}
 
 -- what a vector holds after its elements were written
 pub written : {X : Type 0} (new items : List X) (len : ℕ) → length new ≡ len → take len (new ++ drop (length new) items) ≡ new
@@ -49,10 +49,10 @@ module _ {X : Type 0} (points : X → List Point) (place : X → ℕ) (is_part :
   -- ---- a new cursor
 
   -- parts that stand before their first pairs
-  pub over-settled : (parts : List X) (n : ℕ) → n ≡ length parts → All (λ x. place x ≡ 0) parts → IsSettled false (standings points place is_part parts) n
-  over-settled parts n is h =
+  pub over-aligned : (parts : List X) (n : ℕ) → n ≡ length parts → All (λ x. place x ≡ 0) parts → IsAligned false (standings points place is_part parts) n
+  over-aligned parts n is h =
       let long = length-map parts (standing points place is_part) in
-      let none = current_none (standings points place is_part parts) n n (is ∙ sym long) refl in
+      let none = current-none (standings points place is_part parts) n n (is ∙ sym long) refl in
       record {
         within = omega arith;
         some = λ lt. absurd (omega arith);
@@ -70,7 +70,7 @@ module _ {X : Type 0} (points : X → List Point) (place : X → ℕ) (is_part :
   pub over-place : (parts : List X) (n : ℕ) → n ≡ length parts → merged_place false (standings points place is_part parts) n ≡ 0
   over-place parts n is =
       let long = length-map parts (standing points place is_part) in
-      let none = current_none (standings points place is_part parts) n n (is ∙ sym long) refl in
+      let none = current-none (standings points place is_part parts) n n (is ∙ sym long) refl in
       ap (λ (o : Option Point). count_in (cut_of false o) (merged (lists_of (standings points place is_part parts)))) none
       ∙ count_in-none (merged (lists_of (standings points place is_part parts)))
 
@@ -105,7 +105,7 @@ module _ {X : Type 0} (points : X → List Point) (place : X → ℕ) (is_part :
       → All (λ x. IsTrue (is_part x)) old → All (λ x. IsTrue (is_part x)) new
   parts-after ahead cut old new is h =
       standings-parts new (subst (AllByRecursion (λ (s : Standing). IsTrue s.is_part)) (sym is)
-      (by (standings points place is_part old) (each_of_all (λ s. IsTrue s.is_part) (standings points place is_part old) (parts-standings old h))))
+      (by (standings points place is_part old) (each-of_all (λ s. IsTrue s.is_part) (standings points place is_part old) (parts-standings old h))))
     where
       by : (ss : List Standing) → AllByRecursion (λ s. IsTrue s.is_part) ss → AllByRecursion (λ s. IsTrue s.is_part) (positioned ahead cut ss)
       by [] k = tt
@@ -114,16 +114,16 @@ module _ {X : Type 0} (points : X → List Point) (place : X → ℕ) (is_part :
   -- ---- the current part
 
   -- where there is no current part nothing is shown
-  pub shown-none : (ahead : Bool) (parts : List X) (current : ℕ) → ((x : X) → IsRising (points x)) → IsSettled ahead (standings points place is_part parts) current
+  pub shown-none : (ahead : Bool) (parts : List X) (current : ℕ) → ((x : X) → IsRising (points x)) → IsAligned ahead (standings points place is_part parts) current
       → length parts ≤ current → point_at (merged (lists_of (standings points place is_part parts))) (merged_place ahead (standings points place is_part parts) current) ≡ None
   shown-none ahead parts current rise s past =
       let long = length-map parts (standing points place is_part) in
       let w = s.within in
       shown ahead (standings points place is_part parts) current (rising-standings points place is_part parts rise) s
-      ∙ current_none (standings points place is_part parts) current current (omega arith) refl
+      ∙ current-none (standings points place is_part parts) current current (omega arith) refl
 
   -- what the current part shows
-  pub shown-part : (ahead : Bool) (parts : List X) (current : ℕ) (x : X) → ((y : X) → IsRising (points y)) → IsSettled ahead (standings points place is_part parts) current
+  pub shown-part : (ahead : Bool) (parts : List X) (current : ℕ) (x : X) → ((y : X) → IsRising (points y)) → IsAligned ahead (standings points place is_part parts) current
       → slice_get parts current ≡ Some x
       → point_at (merged (lists_of (standings points place is_part parts))) (merged_place ahead (standings points place is_part parts) current) ≡ point_at (points x) (place x)
   shown-part ahead parts current x rise s at =
@@ -156,7 +156,7 @@ seek-ge-looks key (s ∷ parts) =
 module _ {X : Type 0} (points : X → List Point) (place : X → ℕ) (is_part : X → Bool) where
   -- the looks of a step on, by the names that are left and reached
   pub next-looks : (ahead : Bool) (old new : List X) (from current start end : ℕ) → ((x : X) → IsRising (points x))
-      → IsSettled ahead (standings points place is_part old) from → IsTrue ahead
+      → IsAligned ahead (standings points place is_part old) from → IsTrue ahead
       → After true (cut_past ahead (head_of (heads (standings points place is_part old)) from)) (standings points place is_part old) (standings points place is_part new) current
       → end + sum_by (count_in (cut_of true (head_of (heads (standings points place is_part old)) from))) (lists_of (standings points place is_part old))
       ≤ start + sum_by (count_in (cut_past true (head_of (heads (standings points place is_part old)) from))) (lists_of (standings points place is_part old))
@@ -166,7 +166,7 @@ module _ {X : Type 0} (points : X → List Point) (place : X → ℕ) (is_part :
   next-looks true old new from current start end rise s on done looks =
       let all : List X → List Standing = standings points place is_part in
       let was = shown true (all old) from (rising-standings points place is_part old rise) s in
-      let is = shown true (all new) current (rising-standings points place is_part new rise) done.settled in
+      let is = shown true (all new) current (rising-standings points place is_part new rise) done.aligned in
       let left = entries-cut (head_of (heads (all old)) from) (map points old) in
       let reached = entries-cut (head_of (heads (all new)) current) (map points old) in
       let lists = lists-standings points place is_part old in
@@ -183,7 +183,7 @@ module _ {X : Type 0} (points : X → List Point) (place : X → ℕ) (is_part :
       ≡ entries_below n (map points old)
   seek-reached n old new current rise done =
       let all : List X → List Standing = standings points place is_part in
-      let is = shown true (all new) current (rising-standings points place is_part new rise) done.settled in
+      let is = shown true (all new) current (rising-standings points place is_part new rise) done.aligned in
       ap (λ (o : Option Point). entries_before o (map points old)) is
       ∙ entries-cut (head_of (heads (all new)) current) (map points old)
       ∙ sym (subst (λ (ls : List (List Point)). sum_by (count_in (below n)) ls ≡ sum_by (count_in (cut_of true (head_of (heads (all new)) current))) ls)

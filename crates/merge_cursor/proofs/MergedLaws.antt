@@ -14,24 +14,24 @@ use Rattle.mvcc_key.specs.Lists.{put_in_order, in_order}
 use Rattle.mvcc_key.specs.Order.{Name, name_cmp, is_same_name, is_in_range}
 use Rattle.mvcc_key.specs.Points.{Point, point_cmp, IsRising, AreEncodable}
 use Rattle.mvcc_key.proofs.OrderLaws.{name_cmp-total}
-use Rattle.mvcc_key.proofs.PointLaws.{rising_rest, rising_first}
+use Rattle.mvcc_key.proofs.PointLaws.{rising_rest, rising-first}
 use Rattle.merge_cursor.specs.Merged.{joined, merged, merged-rising}
 use Rattle.merge_cursor.specs.views.Standing.{Standing, lists_of, has_name, count_in}
-use Rattle.merge_cursor.proofs.OrderLaws.{equal_of, same_itself, back_greater}
+use Rattle.merge_cursor.proofs.OrderLaws.{equal-of, is_same_name-itself, back-greater}
 use Rattle.merge_cursor.proofs.CutLaws.{IsPlaced, placed, below-IsCut, up_to-IsCut}
 
 -- ---- what holds of each
 
 -- what holds at each place holds of each
-pub each_of_index : {X : Type 0} (P : X → Type 0) (xs : List X) → ((i : ℕ) (x : X) → slice_get xs i ≡ Some x → P x) → AllByRecursion P xs
-each_of_index P [] h = tt
-each_of_index P (x ∷ xs) h = (h 0 x refl, each_of_index P xs (λ i y is. h (suc i) y is))
+pub each-of_index : {X : Type 0} (P : X → Type 0) (xs : List X) → ((i : ℕ) (x : X) → slice_get xs i ≡ Some x → P x) → AllByRecursion P xs
+each-of_index P [] h = tt
+each-of_index P (x ∷ xs) h = (h 0 x refl, each-of_index P xs (λ i y is. h (suc i) y is))
 
 -- and the other way round
-pub each_at : {X : Type 0} (P : X → Type 0) (xs : List X) (i : ℕ) (x : X) → AllByRecursion P xs → slice_get xs i ≡ Some x → P x
-each_at P [] i x h is = absurd cc
-each_at P (y ∷ ys) zero x h is = (let same : y ≡ x = cc in rw (← same) h.0)
-each_at P (y ∷ ys) (suc i) x h is = each_at P ys i x h.1 is
+pub each-at : {X : Type 0} (P : X → Type 0) (xs : List X) (i : ℕ) (x : X) → AllByRecursion P xs → slice_get xs i ≡ Some x → P x
+each-at P [] i x h is = absurd cc
+each-at P (y ∷ ys) zero x h is = (let same : y ≡ x = cc in rw (← same) h.0)
+each-at P (y ∷ ys) (suc i) x h is = each-at P ys i x h.1 is
 
 each_append : {X : Type 0} (P : X → Type 0) (xs ys : List X) → AllByRecursion P xs → AllByRecursion P ys → AllByRecursion P (xs ++ ys)
 each_append P [] ys h k = k
@@ -63,11 +63,11 @@ each-merged P lists h = each_ordered P (joined lists) (each-joined P lists h)
 -- merged lists of names that have encodings have encodings
 pub encodable-merged : (lists : List (List Point)) → AllByRecursion AreEncodable lists → AreEncodable (merged lists)
 encodable-merged lists h i p is =
-    each_at (λ q. is_in_range q.name.ts ≡ true) (merged lists) i p (each-merged (λ q. is_in_range q.name.ts ≡ true) lists (all lists h)) is
+    each-at (λ q. is_in_range q.name.ts ≡ true) (merged lists) i p (each-merged (λ q. is_in_range q.name.ts ≡ true) lists (all lists h)) is
   where
     all : (ls : List (List Point)) → AllByRecursion AreEncodable ls → AllByRecursion (AllByRecursion (λ q. is_in_range q.name.ts ≡ true)) ls
     all [] k = tt
-    all (ps ∷ ls) k = (each_of_index (λ q. is_in_range q.name.ts ≡ true) ps k.0, all ls k.1)
+    all (ps ∷ ls) k = (each-of_index (λ q. is_in_range q.name.ts ≡ true) ps k.0, all ls k.1)
 
 -- where there is nothing nothing is merged
 pub merged-none : (lists : List (List Point)) → joined lists ≡ [] → merged lists ≡ []
@@ -77,14 +77,14 @@ merged-none lists none = ap (in_order point_cmp) none
 -- ---- the point of a name
 
 -- the first point of the name
-abbrev pub point_of : Name → List Point → Option Point
-point_of name points = find (λ p. is_same_name p.name name) points
+abbrev pub named_point : Name → List Point → Option Point
+named_point name points = find (λ p. is_same_name p.name name) points
 
 tied : (name : Name) (p q : Point) → is_same_name p.name name ≡ true → is_same_name q.name name ≡ true → name_cmp p.name q.name ≡ Equal
 tied name p q h k =
-    name_cmp-total.congr p.name name q.name (equal_of (name_cmp p.name name) h) ∙ tied_back name_cmp-total q.name name (equal_of (name_cmp q.name name) k)
+    name_cmp-total.congr p.name name q.name (equal-of (name_cmp p.name name) h) ∙ tied_back name_cmp-total q.name name (equal-of (name_cmp q.name name) k)
 
-point_of-put : (name : Name) (p : Point) (qs : List Point) → point_of name (put_in_order point_cmp p qs) ≡ cond (is_same_name p.name name) (Some p) (point_of name qs)
+point_of-put : (name : Name) (p : Point) (qs : List Point) → named_point name (put_in_order point_cmp p qs) ≡ cond (is_same_name p.name name) (Some p) (named_point name qs)
 point_of-put name p [] = refl
 point_of-put name p (q ∷ qs) = by (point_cmp p q) refl (point_of-put name p qs)
   where
@@ -99,48 +99,48 @@ point_of-put name p (q ∷ qs) = by (point_cmp p q) refl (point_of-put name p qs
     one false true xs h = absurd cc
     one false false xs h = refl
 
-    by : (o : Ordering) → point_cmp p q ≡ o → point_of name (put_in_order point_cmp p qs) ≡ cond (is_same_name p.name name) (Some p) (point_of name qs)
-        → point_of name (match_ordering o (p ∷ q ∷ qs) (p ∷ qs) (q ∷ put_in_order point_cmp p qs))
-        ≡ cond (is_same_name p.name name) (Some p) (cond (is_same_name q.name name) (Some q) (point_of name qs))
+    by : (o : Ordering) → point_cmp p q ≡ o → named_point name (put_in_order point_cmp p qs) ≡ cond (is_same_name p.name name) (Some p) (named_point name qs)
+        → named_point name (match_ordering o (p ∷ q ∷ qs) (p ∷ qs) (q ∷ put_in_order point_cmp p qs))
+        ≡ cond (is_same_name p.name name) (Some p) (cond (is_same_name q.name name) (Some q) (named_point name qs))
     by Less h rest = refl
-    by Equal h rest = one (is_same_name p.name name) (is_same_name q.name name) (point_of name qs) (ap is_eq (name_cmp-total.congr p.name q.name name h))
+    by Equal h rest = one (is_same_name p.name name) (is_same_name q.name name) (named_point name qs) (ap is_eq (name_cmp-total.congr p.name q.name name h))
     by Greater h rest =
         ap (λ (xs : Option Point). cond (is_same_name q.name name) (Some q) xs) rest
-        ∙ both (is_same_name p.name name) (is_same_name q.name name) (point_of name qs) (λ a b. (let equal : point_cmp p q ≡ Equal = tied name p q a b in cc))
+        ∙ both (is_same_name p.name name) (is_same_name q.name name) (named_point name qs) (λ a b. (let equal : point_cmp p q ≡ Equal = tied name p q a b in cc))
 
-point_of-ordered : (name : Name) (ps : List Point) → point_of name (in_order point_cmp ps) ≡ point_of name ps
+point_of-ordered : (name : Name) (ps : List Point) → named_point name (in_order point_cmp ps) ≡ named_point name ps
 point_of-ordered name [] = refl
 point_of-ordered name (p ∷ ps) =
     point_of-put name p (in_order point_cmp ps) ∙ ap (λ (xs : Option Point). cond (is_same_name p.name name) (Some p) xs) (point_of-ordered name ps)
 
 -- among the merged points a name has its first point
-pub point_of-merged : (name : Name) (lists : List (List Point)) → point_of name (merged lists) ≡ point_of name (joined lists)
+pub point_of-merged : (name : Name) (lists : List (List Point)) → named_point name (merged lists) ≡ named_point name (joined lists)
 unfolding merged
 point_of-merged name lists = point_of-ordered name (joined lists)
 
 -- a list without the name in front changes nothing
-point_of-lacking : (name : Name) (ps qs : List Point) → has_name name ps ≡ false → point_of name (ps ++ qs) ≡ point_of name qs
+point_of-lacking : (name : Name) (ps qs : List Point) → has_name name ps ≡ false → named_point name (ps ++ qs) ≡ named_point name qs
 point_of-lacking name [] qs h = refl
 point_of-lacking name (p ∷ ps) qs h = by (is_same_name p.name name) h (λ k. point_of-lacking name ps qs k)
   where
-    by : (b : Bool) → (b || has_name name ps) ≡ false → (has_name name ps ≡ false → point_of name (ps ++ qs) ≡ point_of name qs)
-        → cond b (Some p) (point_of name (ps ++ qs)) ≡ point_of name qs
+    by : (b : Bool) → (b || has_name name ps) ≡ false → (has_name name ps ≡ false → named_point name (ps ++ qs) ≡ named_point name qs)
+        → cond b (Some p) (named_point name (ps ++ qs)) ≡ named_point name qs
     by true k rest = absurd cc
     by false k rest = rest k
 
 -- a list that has it goes before those behind
-point_of-having : (name : Name) (q : Point) (ps qs : List Point) → point_of name ps ≡ Some q → point_of name (ps ++ qs) ≡ Some q
+point_of-having : (name : Name) (q : Point) (ps qs : List Point) → named_point name ps ≡ Some q → named_point name (ps ++ qs) ≡ Some q
 point_of-having name q [] qs h = absurd cc
 point_of-having name q (p ∷ ps) qs h = by (is_same_name p.name name) h (λ k. point_of-having name q ps qs k)
   where
-    by : (b : Bool) → cond b (Some p) (point_of name ps) ≡ Some q → (point_of name ps ≡ Some q → point_of name (ps ++ qs) ≡ Some q)
-        → cond b (Some p) (point_of name (ps ++ qs)) ≡ Some q
+    by : (b : Bool) → cond b (Some p) (named_point name ps) ≡ Some q → (named_point name ps ≡ Some q → named_point name (ps ++ qs) ≡ Some q)
+        → cond b (Some p) (named_point name (ps ++ qs)) ≡ Some q
     by true k rest = k
     by false k rest = rest k
 
 -- the first list that has the name gives its point
 pub point_of-first : (name : Name) (q : Point) (parts : List Standing) (i : ℕ) (s : Standing) → slice_get parts i ≡ Some s
-    → AllByRecursion (λ t. has_name name t.points ≡ false) (take i parts) → point_of name s.points ≡ Some q → point_of name (joined (lists_of parts)) ≡ Some q
+    → AllByRecursion (λ t. has_name name t.points ≡ false) (take i parts) → named_point name s.points ≡ Some q → named_point name (joined (lists_of parts)) ≡ Some q
 point_of-first name q [] i s at h k = absurd cc
 point_of-first name q (t ∷ parts) zero s at h k =
     (let same : t ≡ s = cc in point_of-having name q t.points (joined (lists_of parts)) (rw same k))
@@ -148,19 +148,19 @@ point_of-first name q (t ∷ parts) (suc i) s at h k =
     point_of-lacking name t.points (joined (lists_of parts)) h.0 ∙ point_of-first name q parts i s at h.1 k
 
 -- a point of rising ones is the first of its name
-pub point_of-rising : (ps : List Point) (i : ℕ) (q : Point) → IsRising ps → slice_get ps i ≡ Some q → point_of q.name ps ≡ Some q
+pub point_of-rising : (ps : List Point) (i : ℕ) (q : Point) → IsRising ps → slice_get ps i ≡ Some q → named_point q.name ps ≡ Some q
 point_of-rising [] i q rising at = absurd cc
 point_of-rising (p ∷ ps) zero q rising at =
-    (let same : p ≡ q = cc in rw (ap (λ (r : Point). is_same_name r.name q.name) same ∙ same_itself q.name) at)
+    (let same : p ≡ q = cc in rw (ap (λ (r : Point). is_same_name r.name q.name) same ∙ is_same_name-itself q.name) at)
 point_of-rising (p ∷ ps) (suc i) q rising at =
-    rw (ap is_eq (rising_first (λ (r : Point). r.name) p ps rising i q at)) (point_of-rising ps i q (rising_rest (λ (r : Point). r.name) p ps rising) at)
+    rw (ap is_eq (rising-first (λ (r : Point). r.name) p ps rising i q at)) (point_of-rising ps i q (rising_rest (λ (r : Point). r.name) p ps rising) at)
 
 -- the point stands somewhere
-find-at : (name : Name) (ps : List Point) (q : Point) → point_of name ps ≡ Some q → (i : ℕ) × (slice_get ps i ≡ Some q)
+find-at : (name : Name) (ps : List Point) (q : Point) → named_point name ps ≡ Some q → (i : ℕ) × (slice_get ps i ≡ Some q)
 find-at name [] q h = absurd cc
 find-at name (p ∷ ps) q h = by (is_same_name p.name name) h (λ k. find-at name ps q k)
   where
-    by : (b : Bool) → cond b (Some p) (point_of name ps) ≡ Some q → (point_of name ps ≡ Some q → (i : ℕ) × (slice_get ps i ≡ Some q)) → (i : ℕ) × (slice_get (p ∷ ps) i ≡ Some q)
+    by : (b : Bool) → cond b (Some p) (named_point name ps) ≡ Some q → (named_point name ps ≡ Some q → (i : ℕ) × (slice_get ps i ≡ Some q)) → (i : ℕ) × (slice_get (p ∷ ps) i ≡ Some q)
     by true k rest = (0, k)
     by false k rest = (suc (rest k).0, (rest k).1)
 
@@ -203,14 +203,14 @@ there-at q ps i rising at = record { here = ap (slice_get ps) (sym is_n) ∙ at;
           | inr (inr behind) ↦ absurd (elim ((slice_get_cases ps (suc i)).1) [
             | inl there ↦
                 (let yes = m.below (suc i) there.0 behind there.2 in
-                let not : is_le (name_cmp there.0.name q.name) ≡ false = ap is_le (back_greater q.name there.0.name (rising i (suc i) q there.0 (omega arith) at there.2)) in
+                let not : is_le (name_cmp there.0.name q.name) ≡ false = ap is_le (back-greater q.name there.0.name (rising i (suc i) q there.0 (omega arith) at there.2)) in
                 cc)
             | inr past ↦ (let le = past.0 in let w = m.within in omega arith)
           ])
         ]
 
 -- the point of a name among the merged ones
-pub there-merged : (q : Point) (lists : List (List Point)) → point_of q.name (joined lists) ≡ Some q → IsThere q (merged lists)
+pub there-merged : (q : Point) (lists : List (List Point)) → named_point q.name (joined lists) ≡ Some q → IsThere q (merged lists)
 there-merged q lists h =
     let at = find-at q.name (merged lists) q (point_of-merged q.name lists ∙ h) in
     there-at q (merged lists) at.0 (merged-rising lists) at.1

@@ -15,32 +15,32 @@ less_of Less h = refl
 less_of Equal h = absurd cc
 less_of Greater h = absurd cc
 
-pub equal_of : (o : Ordering) → is_eq o ≡ true → o ≡ Equal
-equal_of Less h = absurd cc
-equal_of Equal h = refl
-equal_of Greater h = absurd cc
+pub equal-of : (o : Ordering) → is_eq o ≡ true → o ≡ Equal
+equal-of Less h = absurd cc
+equal-of Equal h = refl
+equal-of Greater h = absurd cc
 
 -- the other way round
-pub back_greater : (a b : Name) → name_cmp a b ≡ Less → name_cmp b a ≡ Greater
-back_greater a b h = name_cmp-total.antisymm b a ∙ ap ordering_reverse h
+pub back-greater : (a b : Name) → name_cmp a b ≡ Less → name_cmp b a ≡ Greater
+back-greater a b h = name_cmp-total.antisymm b a ∙ ap ordering_reverse h
 
-pub back_less : (a b : Name) → name_cmp a b ≡ Greater → name_cmp b a ≡ Less
-back_less a b h = name_cmp-total.antisymm b a ∙ ap ordering_reverse h
+pub back-less : (a b : Name) → name_cmp a b ≡ Greater → name_cmp b a ≡ Less
+back-less a b h = name_cmp-total.antisymm b a ∙ ap ordering_reverse h
 
 -- names that tie are one name
-pub one_name : (a b : Name) → is_same_name a b ≡ true → a ≡ b
-one_name a b h = name_cmp-IsAntisymmetric a b (equal_of (name_cmp a b) h)
+pub is_same_name-one : (a b : Name) → is_same_name a b ≡ true → a ≡ b
+is_same_name-one a b h = name_cmp-IsAntisymmetric a b (equal-of (name_cmp a b) h)
 
 -- a name is itself
-pub same_itself : (a : Name) → is_same_name a a ≡ true
-same_itself a = ap is_eq (tied_itself name_cmp-total a)
+pub is_same_name-itself : (a : Name) → is_same_name a a ≡ true
+is_same_name-itself a = ap is_eq (tied_itself name_cmp-total a)
 
 -- ---- which comes before
 
 -- the answers of a comparison
 pub precedes-less : (ahead : Bool) (a b : Name) → name_cmp a b ≡ Less → precedes ahead a b ≡ ahead
 precedes-less true a b h = ap is_lt h
-precedes-less false a b h = ap is_lt (back_greater a b h)
+precedes-less false a b h = ap is_lt (back-greater a b h)
 
 pub precedes-equal : (ahead : Bool) (a b : Name) → name_cmp a b ≡ Equal → precedes ahead a b ≡ false
 precedes-equal true a b h = ap is_lt h
@@ -48,7 +48,7 @@ precedes-equal false a b h = ap is_lt (tied_back name_cmp-total a b h)
 
 pub precedes-greater : (ahead : Bool) (a b : Name) → name_cmp a b ≡ Greater → precedes ahead a b ≡ not ahead
 precedes-greater true a b h = ap is_lt h
-precedes-greater false a b h = ap is_lt (back_less a b h)
+precedes-greater false a b h = ap is_lt (back-less a b h)
 
 -- one before another that is before a third is before it
 pub precedes-trans : (ahead : Bool) (a b c : Name) → precedes ahead a b ≡ true → precedes ahead b c ≡ true → precedes ahead a c ≡ true

@@ -1,4 +1,4 @@
--- What settled parts show, and where they stand after a move.
+-- What aligned parts show, and where they stand after a move.
 use Rattle.std.proofs.Common.{◌≡◌, ℕ, zero, suc, ◌+◌, ◌-◌, Bool, true, false, cond, List, [], ◌∷◌, length, map, take, sum_by, min, refl, sym, ap, subst, ◌∙◌, arith}
 use Rattle.std.specs.Prelude.{slice_get, Some, None, ◌||◌}
 use Rattle.std.specs.List.{AllByRecursion}
@@ -12,15 +12,15 @@ use Rattle.mvcc_key.specs.Order.{Name, name_cmp, is_same_name}
 use Rattle.mvcc_key.specs.Points.{Point, IsRising, point_at}
 use Rattle.mvcc_key.proofs.PointLaws.{point_at-next}
 use Rattle.merge_cursor.specs.Merged.{merged}
-use Rattle.merge_cursor.specs.views.Standing.{Standing, standings, lists_of, head, heads, head_of, cut_of, count_in, place_in, positioned, has_name, IsSettled, merged_place}
+use Rattle.merge_cursor.specs.views.Standing.{Standing, standings, lists_of, head, heads, head_of, cut_of, count_in, place_in, positioned, has_name, IsAligned, merged_place}
 use Rattle.merge_cursor.specs.declared.moves.Move.TheVariants.{Next, Prev}
 use Rattle.merge_cursor.specs.views.Moves.{moved, is_at, passed, passing_looks, cut_past, cut_before}
-use Rattle.merge_cursor.proofs.OrderLaws.{one_name}
-use Rattle.merge_cursor.proofs.PassLaws.{each_of_all}
+use Rattle.merge_cursor.proofs.OrderLaws.{is_same_name-one}
+use Rattle.merge_cursor.proofs.PassLaws.{each-of_all}
 use Rattle.merge_cursor.proofs.LeadingLaws.{refused}
 use Rattle.merge_cursor.proofs.CutLaws.{count_in-le, count_in-all, count_in-none, count_in-agree}
-use Rattle.merge_cursor.proofs.MergedLaws.{each_of_index, each_at, point_of-rising, point_of-first, IsThere, there-at, there-merged}
-use Rattle.merge_cursor.proofs.SettleLaws.{part_of, placed-at}
+use Rattle.merge_cursor.proofs.MergedLaws.{each-of_index, each-at, point_of-rising, point_of-first, IsThere, there-at, there-merged}
+use Rattle.merge_cursor.proofs.AlignLaws.{part_of, placed-at}
 
 -- the parts' points rise
 pub rising-standings : {X : Type 0} (points : X → List Point) (place : X → ℕ) (is_part : X → Bool) (parts : List X) → ((x : X) → IsRising (points x))
@@ -36,19 +36,19 @@ slice_of ps (suc n) q at = (n, omega arith, sym (point_at-next ps n) ∙ ap (poi
 -- ---- what is shown
 
 -- the current point is there among the merged ones
-pub settled-there : (ahead : Bool) (parts : List Standing) (current : ℕ) (q : Point) → AllByRecursion (λ s. IsRising s.points) parts → IsSettled ahead parts current
+pub aligned-there : (ahead : Bool) (parts : List Standing) (current : ℕ) (q : Point) → AllByRecursion (λ s. IsRising s.points) parts → IsAligned ahead parts current
     → head_of (heads parts) current ≡ Some q → IsThere q (merged (lists_of parts))
-settled-there ahead parts current q rising s at =
+aligned-there ahead parts current q rising s at =
     let part = part_of parts current q at in
     let place = slice_of part.0.points part.0.place q part.2 in
-    let first = point_of-rising part.0.points place.0 q (each_at (λ t. IsRising t.points) parts current part.0 rising part.1) place.2 in
+    let first = point_of-rising part.0.points place.0 q (each-at (λ t. IsRising t.points) parts current part.0 rising part.1) place.2 in
     there-merged q (lists_of parts)
-    (point_of-first q.name q parts current part.0 part.1 (each_of_all (λ t. has_name q.name t.points ≡ false) (take current parts) (s.newest q at)) first)
+    (point_of-first q.name q parts current part.0 part.1 (each-of_all (λ t. has_name q.name t.points ≡ false) (take current parts) (s.newest q at)) first)
 
 -- the merged point at the merged place is the current one
-pub shown : (ahead : Bool) (parts : List Standing) (current : ℕ) → AllByRecursion (λ s. IsRising s.points) parts → IsSettled ahead parts current
+pub shown : (ahead : Bool) (parts : List Standing) (current : ℕ) → AllByRecursion (λ s. IsRising s.points) parts → IsAligned ahead parts current
     → point_at (merged (lists_of parts)) (merged_place ahead parts current) ≡ head_of (heads parts) current
-shown ahead parts current rising s = by ahead (head_of (heads parts) current) (λ q at. settled-there ahead parts current q rising s at)
+shown ahead parts current rising s = by ahead (head_of (heads parts) current) (λ q at. aligned-there ahead parts current q rising s at)
   where
     by : (on : Bool) (o : Option Point) → ((q : Point) → o ≡ Some q → IsThere q (merged (lists_of parts)))
         → point_at (merged (lists_of parts)) (place_in on (cut_of on o) (merged (lists_of parts))) ≡ o
@@ -63,9 +63,9 @@ shown ahead parts current rising s = by ahead (head_of (heads parts) current) (�
 
 -- ---- the merged place after a move
 
-pub place-on : (ahead : Bool) (parts : List Standing) (current : ℕ) → AllByRecursion (λ s. IsRising s.points) parts → IsSettled ahead parts current
+pub place-on : (ahead : Bool) (parts : List Standing) (current : ℕ) → AllByRecursion (λ s. IsRising s.points) parts → IsAligned ahead parts current
     → place_in true (cut_past ahead (head_of (heads parts) current)) (merged (lists_of parts)) ≡ min (merged_place ahead parts current + 1) (length (merged (lists_of parts)) + 1)
-place-on ahead parts current rising s = by ahead (head_of (heads parts) current) (λ q at. settled-there ahead parts current q rising s at)
+place-on ahead parts current rising s = by ahead (head_of (heads parts) current) (λ q at. aligned-there ahead parts current q rising s at)
   where
     by : (on : Bool) (o : Option Point) → ((q : Point) → o ≡ Some q → IsThere q (merged (lists_of parts)))
         → place_in true (cut_past on o) (merged (lists_of parts)) ≡ min (place_in on (cut_of on o) (merged (lists_of parts)) + 1) (length (merged (lists_of parts)) + 1)
@@ -74,9 +74,9 @@ place-on ahead parts current rising s = by ahead (head_of (heads parts) current)
     by true (Some q) there = omega (arith, (there q refl).next, count_in-le (λ m. is_le (name_cmp m q.name)) (merged (lists_of parts)))
     by false (Some q) there = omega (arith, count_in-le (λ m. is_le (name_cmp m q.name)) (merged (lists_of parts)))
 
-pub place-back : (ahead : Bool) (parts : List Standing) (current : ℕ) → AllByRecursion (λ s. IsRising s.points) parts → IsSettled ahead parts current
+pub place-back : (ahead : Bool) (parts : List Standing) (current : ℕ) → AllByRecursion (λ s. IsRising s.points) parts → IsAligned ahead parts current
     → place_in false (cut_before ahead (head_of (heads parts) current)) (merged (lists_of parts)) ≡ merged_place ahead parts current - 1
-place-back ahead parts current rising s = by ahead (head_of (heads parts) current) (λ q at. settled-there ahead parts current q rising s at)
+place-back ahead parts current rising s = by ahead (head_of (heads parts) current) (λ q at. aligned-there ahead parts current q rising s at)
   where
     by : (on : Bool) (o : Option Point) → ((q : Point) → o ≡ Some q → IsThere q (merged (lists_of parts)))
         → place_in false (cut_before on o) (merged (lists_of parts)) ≡ place_in on (cut_of on o) (merged (lists_of parts)) - 1
@@ -136,13 +136,13 @@ more_there : (n : Name) (ps : List Point) (i : ℕ) (t : Point) → IsRising ps 
     → (count_in (up_to n) ps ≡ count_in (below n) ps + 1) × (slice_get ps (count_in (below n) ps) ≡ Some t)
 more_there n ps i t rising at same =
     let h = there-at t ps i rising at in
-    let name : t.name ≡ n = one_name t.name n same in
+    let name : t.name ≡ n = is_same_name-one t.name n same in
     let P : Name → Type 0 = λ m. (count_in (up_to m) ps ≡ count_in (below m) ps + 1) × (slice_get ps (count_in (below m) ps) ≡ Some t) in
     subst P name (h.next ∙ omega arith, h.here)
 
 -- where it does not have it they are the same
 same_else : (n : Name) (ps : List Point) → ((i : ℕ) (t : Point) → slice_get ps i ≡ Some t → is_same_name t.name n ≡ false) → count_in (up_to n) ps ≡ count_in (below n) ps
-same_else n ps h = count_in-agree (up_to n) (below n) ps (each_of_index (λ t. up_to n t.name ≡ below n t.name) ps (λ i t at. below_is_up_to n t.name (h i t at)))
+same_else n ps h = count_in-agree (up_to n) (below n) ps (each-of_index (λ t. up_to n t.name ≡ below n t.name) ps (λ i t at. below_is_up_to n t.name (h i t at)))
 
 -- a test does not both hold and fail
 clash : (b : Bool) → b ≡ true → b ≡ false → ⊥
@@ -186,7 +186,7 @@ pub passed-on : (n : Name) (parts : List Standing) → AllByRecursion (λ s. IsR
     → map (passed Next n) parts ≡ positioned true (up_to n) parts
 passed-on n parts rising is =
     each_changed (passed Next n) (λ s. put_at s (place_in true (up_to n) s.points)) parts
-    (λ i s at. by s (placed-at true (below n) parts i s is at) (each_at (λ t. IsRising t.points) parts i s rising at))
+    (λ i s at. by s (placed-at true (below n) parts i s is at) (each-at (λ t. IsRising t.points) parts i s rising at))
   where
     by : (s : Standing) → s.place ≡ count_in (below n) s.points + 1 → IsRising s.points
         → passed Next n s ≡ put_at s (count_in (up_to n) s.points + 1)
@@ -202,7 +202,7 @@ pub passed-back : (n : Name) (parts : List Standing) → AllByRecursion (λ s. I
     → map (passed Prev n) parts ≡ positioned false (below n) parts
 passed-back n parts rising is =
     each_changed (passed Prev n) (λ s. put_at s (place_in false (below n) s.points)) parts
-    (λ i s at. by s (placed-at false (up_to n) parts i s is at) (each_at (λ t. IsRising t.points) parts i s rising at))
+    (λ i s at. by s (placed-at false (up_to n) parts i s is at) (each-at (λ t. IsRising t.points) parts i s rising at))
   where
     by : (s : Standing) → s.place ≡ count_in (up_to n) s.points → IsRising s.points
         → passed Prev n s ≡ put_at s (count_in (below n) s.points)
@@ -220,7 +220,7 @@ passed-counts n parts rising is = all parts (λ i s at. more i s at)
   where
     more : (i : ℕ) (s : Standing) → slice_get parts i ≡ Some s → count_in (up_to n) s.points ≡ count_in (below n) s.points + passing_looks Next n s
     more i s at =
-        counts-front n s.points (each_at (λ t. IsRising t.points) parts i s rising at)
+        counts-front n s.points (each-at (λ t. IsRising t.points) parts i s rising at)
         ∙ ap (λ (k : ℕ). count_in (below n) s.points + cond (is_at n (point_at s.points k)) 1 0) (sym (placed-at true (below n) parts i s is at))
 
     all : (ss : List Standing) → ((i : ℕ) (s : Standing) → slice_get ss i ≡ Some s → count_in (up_to n) s.points ≡ count_in (below n) s.points + passing_looks Next n s)

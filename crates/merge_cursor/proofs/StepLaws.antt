@@ -13,21 +13,21 @@ use Rattle.mvcc_key.specs.Encoded.{name_in}
 use Rattle.mvcc_key.specs.Points.{Point, IsRising, AreEncodable, point_at}
 use Rattle.mvcc_key.proofs.PointLaws.{point_at-some, point_at-none}
 use Rattle.merge_cursor.specs.Merged.{joined, merged}
-use Rattle.merge_cursor.specs.views.Standing.{Standing, lists_of, head, heads, head_of, cut_of, count_in, place_in, positioned, has_name, IsLeading, IsSettled, merged_place}
+use Rattle.merge_cursor.specs.views.Standing.{Standing, lists_of, head, heads, head_of, cut_of, count_in, place_in, positioned, has_name, IsLeading, IsAligned, merged_place}
 use Rattle.merge_cursor.specs.declared.moves.Move.TheVariants.{SeekGe, SeekLt, Next, Prev}
 use Rattle.merge_cursor.specs.views.Moves.{moved, takes_look, is_at, passed, passing_looks, cut_past, cut_before}
-use Rattle.merge_cursor.proofs.PassLaws.{each_of_all}
+use Rattle.merge_cursor.proofs.PassLaws.{each-of_all}
 use Rattle.merge_cursor.proofs.LeadingLaws.{head_of-past}
 use Rattle.merge_cursor.proofs.CutLaws.{IsCut, count_in-below}
-use Rattle.merge_cursor.proofs.MergedLaws.{each_of_index, each_at, merged-none}
-use Rattle.merge_cursor.proofs.SettleLaws.{part_of, by_cut, Settles, settles}
+use Rattle.merge_cursor.proofs.MergedLaws.{each-of_index, each-at, merged-none}
+use Rattle.merge_cursor.proofs.AlignLaws.{part_of, by_cut, Aligns, aligns}
 use Rattle.merge_cursor.proofs.ShownLaws.{turned-on, turned-back, passed-on, passed-back, passed-counts, not_there, below, shown}
 
 -- ---- the current point
 
 -- where the number is that of the parts, no part is current
-pub current_none : (parts : List Standing) (current n : ℕ) → n ≡ length parts → current ≡ n → head_of (heads parts) current ≡ None
-current_none parts current n is at = head_of-past (heads parts) current (omega (arith, length-map parts head))
+pub current-none : (parts : List Standing) (current n : ℕ) → n ≡ length parts → current ≡ n → head_of (heads parts) current ≡ None
+current-none parts current n is at = head_of-past (heads parts) current (omega (arith, length-map parts head))
 
 -- there is a point, or none
 pub some_none : (o : Option Point) → o ≡ None → IsSome o → ⊥
@@ -45,7 +45,7 @@ cut_before-ahead None = refl
 cut_before-ahead (Some p) = refl
 
 -- the parts turn from the way back
-pub turns-on : (ahead : Bool) (parts : List Standing) (current : ℕ) → ahead ≡ false → IsSettled ahead parts current
+pub turns-on : (ahead : Bool) (parts : List Standing) (current : ℕ) → ahead ≡ false → IsAligned ahead parts current
     → map (moved Next) parts ≡ positioned true (cut_past ahead (head_of (heads parts) current)) parts
 turns-on true parts current back s = absurd cc
 turns-on false parts current back s =
@@ -54,7 +54,7 @@ turns-on false parts current back s =
     (subst (λ (cut : Name → Bool). parts ≡ positioned false cut parts) (sym same) s.each)
 
 -- the parts turn from the way on
-pub turns-back : (ahead : Bool) (parts : List Standing) (current : ℕ) → ahead ≡ true → IsSettled ahead parts current
+pub turns-back : (ahead : Bool) (parts : List Standing) (current : ℕ) → ahead ≡ true → IsAligned ahead parts current
     → map (moved Prev) parts ≡ positioned false (cut_before ahead (head_of (heads parts) current)) parts
 turns-back false parts current on s = absurd cc
 turns-back true parts current on s =
@@ -63,13 +63,13 @@ turns-back true parts current on s =
     (subst (λ (cut : Name → Bool). parts ≡ positioned true cut parts) (sym same) s.each)
 
 -- where there is no current point the parts stay
-pub stays-on : (ahead : Bool) (parts : List Standing) (current : ℕ) → ahead ≡ true → head_of (heads parts) current ≡ None → IsSettled ahead parts current
+pub stays-on : (ahead : Bool) (parts : List Standing) (current : ℕ) → ahead ≡ true → head_of (heads parts) current ≡ None → IsAligned ahead parts current
     → parts ≡ positioned true (cut_past ahead (head_of (heads parts) current)) parts
 stays-on false parts current on none s = absurd cc
 stays-on true parts current on none s =
     s.each ∙ ap (λ (o : Option Point). positioned true (cut_of true o) parts) none ∙ sym (ap (λ (o : Option Point). positioned true (cut_past true o) parts) none)
 
-pub stays-back : (ahead : Bool) (parts : List Standing) (current : ℕ) → ahead ≡ false → head_of (heads parts) current ≡ None → IsSettled ahead parts current
+pub stays-back : (ahead : Bool) (parts : List Standing) (current : ℕ) → ahead ≡ false → head_of (heads parts) current ≡ None → IsAligned ahead parts current
     → parts ≡ positioned false (cut_before ahead (head_of (heads parts) current)) parts
 stays-back true parts current back none s = absurd cc
 stays-back false parts current back none s =
@@ -77,7 +77,7 @@ stays-back false parts current back none s =
 
 -- the current name is left
 pub leaves-on : (ahead : Bool) (parts : List Standing) (current : ℕ) (new : List Standing) → ahead ≡ true → AllByRecursion (λ s. IsRising s.points) parts
-    → IsSettled ahead parts current → IsSome (head_of (heads parts) current)
+    → IsAligned ahead parts current → IsSome (head_of (heads parts) current)
     → ((p : Point) → head_of (heads parts) current ≡ Some p → new ≡ map (passed Next p.name) parts) → new ≡ positioned true (cut_past ahead (head_of (heads parts) current)) parts
 leaves-on false parts current new on rising s some h = absurd cc
 leaves-on true parts current new on rising s some h = by (head_of (heads parts) current) refl some
@@ -90,7 +90,7 @@ leaves-on true parts current new on rising s some h = by (head_of (heads parts) 
         ∙ sym (ap (λ (o : Option Point). positioned true (cut_past true o) parts) at)
 
 pub leaves-back : (ahead : Bool) (parts : List Standing) (current : ℕ) (new : List Standing) → ahead ≡ false → AllByRecursion (λ s. IsRising s.points) parts
-    → IsSettled ahead parts current → IsSome (head_of (heads parts) current)
+    → IsAligned ahead parts current → IsSome (head_of (heads parts) current)
     → ((p : Point) → head_of (heads parts) current ≡ Some p → new ≡ map (passed Prev p.name) parts) → new ≡ positioned false (cut_before ahead (head_of (heads parts) current)) parts
 leaves-back true parts current new back rising s some h = absurd cc
 leaves-back false parts current new back rising s some h = by (head_of (heads parts) current) refl some
@@ -103,17 +103,17 @@ leaves-back false parts current new back rising s some h = by (head_of (heads pa
         ∙ sym (ap (λ (o : Option Point). positioned false (cut_before false o) parts) at)
 
 -- no newer part stands at the current name
-pub none_newer : (ahead : Bool) (parts : List Standing) (current : ℕ) (p : Point) → IsSettled ahead parts current → head_of (heads parts) current ≡ Some p
+pub none_newer : (ahead : Bool) (parts : List Standing) (current : ℕ) (p : Point) → IsAligned ahead parts current → head_of (heads parts) current ≡ Some p
     → All (λ s. is_at p.name (head s) ≡ false) (take current parts)
 none_newer ahead parts current p s at =
     All-from_recursion (λ t. is_at p.name (head t) ≡ false) (take current parts)
-    (each_of_index (λ t. is_at p.name (head t) ≡ false) (take current parts)
-    (λ i t is. not_there p.name t (each_at (λ r. has_name p.name r.points ≡ false) (take current parts) i t (each_of_all (λ r. has_name p.name r.points ≡ false) (take current parts) (s.newest p at)) is)))
+    (each-of_index (λ t. is_at p.name (head t) ≡ false) (take current parts)
+    (λ i t is. not_there p.name t (each-at (λ r. has_name p.name r.points ≡ false) (take current parts) i t (each-of_all (λ r. has_name p.name r.points ≡ false) (take current parts) (s.newest p at)) is)))
 
 -- ---- looks
 
 -- the looks of those that left it
-pub leaves-looks : (ahead : Bool) (parts : List Standing) (current start after : ℕ) → ahead ≡ true → AllByRecursion (λ s. IsRising s.points) parts → IsSettled ahead parts current
+pub leaves-looks : (ahead : Bool) (parts : List Standing) (current start after : ℕ) → ahead ≡ true → AllByRecursion (λ s. IsRising s.points) parts → IsAligned ahead parts current
     → IsSome (head_of (heads parts) current)
     → ((p : Point) → head_of (heads parts) current ≡ Some p → after ≤ start + sum_by (passing_looks Next p.name) parts)
     → after + sum_by (count_in (cut_of true (head_of (heads parts) current))) (lists_of parts) ≤ start + sum_by (count_in (cut_past true (head_of (heads parts) current))) (lists_of parts)
@@ -217,7 +217,7 @@ rising-positioned ahead cut (s ∷ parts) h = (h.0, rising-positioned ahead cut 
 -- what is known once the parts stand by a cut, and which of them leads
 pub record After (ahead : Bool) (cut : Name → Bool) (old new : List Standing) (current : ℕ) : Type 0 where
   pub lists : lists_of new ≡ lists_of old
-  pub settled : IsSettled ahead new current
+  pub aligned : IsAligned ahead new current
   pub encodable : AreEncodable (merged (lists_of new))
   pub place : merged_place ahead new current ≡ place_in ahead cut (merged (lists_of old))
   pub counts : sum_by (count_in cut) (lists_of old) ≡ sum_by (count_in (cut_of ahead (head_of (heads new) current))) (lists_of old)
@@ -228,10 +228,10 @@ after ahead cut old new current c rising e is leading =
     let lists : lists_of new ≡ lists_of old = ap lists_of is ∙ lists-positioned ahead cut old in
     let by_itself : new ≡ positioned ahead cut new = is ∙ positioned-twice ahead cut old ∙ ap (positioned ahead cut) (sym is) in
     let rises : AllByRecursion (λ s. IsRising s.points) new = subst (AllByRecursion (λ (s : Standing). IsRising s.points)) (sym is) (rising-positioned ahead cut old rising) in
-    let s : Settles ahead cut new current = settles ahead cut new current c rises by_itself leading in
+    let s : Aligns ahead cut new current = aligns ahead cut new current c rises by_itself leading in
     record {
       lists = lists;
-      settled = s.settled;
+      aligned = s.aligned;
       encodable = subst (λ (ls : List (List Point)). AreEncodable (merged ls)) (sym lists) e;
       place = s.place ∙ ap (λ (ls : List (List Point)). place_in ahead cut (merged ls)) lists;
       counts = subst (λ (ls : List (List Point)). sum_by (count_in cut) ls ≡ sum_by (count_in (cut_of ahead (head_of (heads new) current))) ls) lists s.counts;
@@ -251,9 +251,9 @@ sought-lt key (s ∷ parts) =
     ∙ ap (λ (ss : List Standing). by_cut false (below (name_in key.now)) s ∷ ss) (sought-lt key parts)
 
 -- a place between the ends has a current point
-pub current_some : (ahead : Bool) (parts : List Standing) (current : ℕ) → AllByRecursion (λ s. IsRising s.points) parts → IsSettled ahead parts current
+pub current-some : (ahead : Bool) (parts : List Standing) (current : ℕ) → AllByRecursion (λ s. IsRising s.points) parts → IsAligned ahead parts current
     → 0 < merged_place ahead parts current → merged_place ahead parts current ≤ length (merged (lists_of parts)) → IsSome (head_of (heads parts) current)
-current_some ahead parts current rising s low high = by (head_of (heads parts) current) (shown ahead parts current rising s)
+current-some ahead parts current rising s low high = by (head_of (heads parts) current) (shown ahead parts current rising s)
   where
     by : (o : Option Point) → point_at (merged (lists_of parts)) (merged_place ahead parts current) ≡ o → IsSome o
     by None at = absurd (let past = point_at-none (merged (lists_of parts)) (merged_place ahead parts current) at low in omega arith)

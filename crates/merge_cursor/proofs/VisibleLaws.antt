@@ -11,12 +11,12 @@ use Rattle.std.proofs.lemmas.List.{take_all}
 use Rattle.std.proofs.lemmas.Option.{slice_get_cases, slice_get_within}
 use Rattle.mvcc_key.specs.Order.{Name, is_in_range}
 use Rattle.mvcc_key.specs.Points.{Point, point_cmp, IsRising, AreEncodable, point_at, value_at, count_below}
-use Rattle.mvcc_key.proofs.PointLaws.{rising_rest, rising_first, point_at-next, sorted-rising, rising-sorted}
+use Rattle.mvcc_key.proofs.PointLaws.{rising_rest, rising-first, point_at-next, sorted-rising, rising-sorted}
 use Rattle.merge_cursor.specs.views.Standing.{count_in}
 use Rattle.merge_cursor.specs.Visible.{visible, visible_place, StandsVisible}
 use Rattle.merge_cursor.proofs.LeadingLaws.{refused}
 use Rattle.merge_cursor.proofs.CutLaws.{below-IsCut, count_in-yes, count_in-no, count_in-below}
-use Rattle.merge_cursor.proofs.MergedLaws.{each_of_index, each_at}
+use Rattle.merge_cursor.proofs.MergedLaws.{each-of_index, each-at}
 use Rattle.merge_cursor.proofs.ShownLaws.{below}
 
 -- whether a point is set
@@ -49,7 +49,7 @@ rising-visible ps rising = rising-sorted (visible ps) (sorted_visible ps (sorted
 -- their names have encodings
 pub encodable-visible : (ps : List Point) → AreEncodable ps → AreEncodable (visible ps)
 encodable-visible ps e i p at =
-    each_at (λ q. is_in_range q.name.ts ≡ true) (visible ps) i p (each_visible (λ q. is_in_range q.name.ts ≡ true) ps (each_of_index (λ q. is_in_range q.name.ts ≡ true) ps e)) at
+    each-at (λ q. is_in_range q.name.ts ≡ true) (visible ps) i p (each_visible (λ q. is_in_range q.name.ts ≡ true) ps (each-of_index (λ q. is_in_range q.name.ts ≡ true) ps e)) at
 
 -- ---- how many are set among the first
 
@@ -205,8 +205,8 @@ visible_cut n (p ∷ ps) rising = by (below n p.name) refl (visible_cut n ps (ri
         set false = rest
     by false is rest =
         let others : AllByRecursion (λ q. below n q.name ≡ false) ps =
-        each_of_index (λ q. below n q.name ≡ false) ps
-        (λ i q at. refused (below n q.name) (λ yes. (let low = (below-IsCut n).down p.name q.name (rising_first (λ (r : Point). r.name) p ps rising i q at) yes in cc))) in
+        each-of_index (λ q. below n q.name ≡ false) ps
+        (λ i q at. refused (below n q.name) (λ yes. (let low = (below-IsCut n).down p.name q.name (rising-first (λ (r : Point). r.name) p ps rising i q at) yes in cc))) in
         let all : AllByRecursion (λ q. below n q.name ≡ false) (p ∷ ps) = (is, others) in
         ap (λ (m : ℕ). length (visible (take m (p ∷ ps)))) (none_below n (p ∷ ps) all)
         ∙ sym (none_below n (visible (p ∷ ps)) (each_visible (λ q. below n q.name ≡ false) (p ∷ ps) all))

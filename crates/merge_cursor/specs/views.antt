@@ -3,3 +3,4 @@ pub mod Standing
 pub mod Moves
 pub mod Seen
 pub mod SeenVisible
+pub mod PartsMoves

@@ -1,7 +1,6 @@
 //! Which of the parts stands first.
-ghost use Rattle.std.specs.Prelude.{◌≡◌, ◌≤◌, ◌<◌, ℕ, length, IsOk};
-ghost use Rattle.mvcc_key.specs.KeyFormat.{name_of};
-ghost use Rattle.mvcc_key.specs.Encoded.{name_in};
+ghost use Rattle.std.specs.Prelude.{◌≡◌, ◌≤◌, ◌<◌, ℕ, length};
+ghost use Rattle.mvcc_key.specs.Encoded.{name_in, IsName};
 ghost use Rattle.merge_cursor.specs.views.Standing.{standings, heads, point_of_part, leads, precedes, IsLeading};
 
 use mvcc_key::{Cursor, cmp_encoded};
@@ -42,8 +41,8 @@ fn leads<C: Cursor>(parts: &[C], index: usize, best: usize, ahead: bool) -> bool
 
 /// Whether a key comes before another on the way ahead or back.
 fn comes_before(key: &[u8], other: &[u8], ahead: bool) -> bool
-    requires key { IsOk (name_of key.now) }
-    requires other { IsOk (name_of other.now) }
+    requires key { IsName key.now }
+    requires other { IsName other.now }
     ensures { result ≡ precedes ahead (name_in key.now) (name_in other.now) }
 {
     match cmp_encoded(key, other) {

@@ -1,11 +1,11 @@
 //! The merging cursor.
-ghost use Rattle.std.specs.Prelude.{◌≡◌, ◌≤◌, ◌<◌, ◌+◌, ◌-◌, ℕ, false, length, map, min, All, IsOk, IsTrue};
-ghost use Rattle.mvcc_key.specs.KeyFormat.{name_of};
-ghost use Rattle.mvcc_key.specs.Encoded.{name_in};
-ghost use Rattle.mvcc_key.specs.views.Looks.{bits};
+ghost use Rattle.std.specs.Prelude.{◌≡◌, ◌≤◌, ◌<◌, ◌+◌, ◌-◌, ℕ, false, length, map, min, All, IsTrue};
+ghost use Rattle.mvcc_key.specs.Encoded.{name_in, IsName};
+ghost use Rattle.mvcc_key.specs.views.CursorMoves.{SeeksGe, SeeksLt, GoesOn, GoesBack};
 ghost use Rattle.mvcc_key.specs.Points.{AreEncodable, count_below, point_at};
+ghost use Rattle.merge_cursor.specs.views.PartsMoves.{KeepsParts, SeeksParts, PassesParts};
 ghost use Rattle.merge_cursor.specs.Merged.{merged, merged-rising, seek_looks, entries_below, entries_before};
-ghost use Rattle.merge_cursor.specs.views.Standing.{standings, lists_of, cut_of, heads, head_of, IsSettled, merged_place, place_in-le};
+ghost use Rattle.merge_cursor.specs.views.Standing.{standings, lists_of, cut_of, heads, head_of, IsAligned, merged_place, place_in-le};
 
 use crate::leading::leading;
 use crate::moves::{Move, move_all};
@@ -23,7 +23,7 @@ pub struct MergeCursor<C: Cursor> {
     current: usize,
     /// Whether each part stands at its first pair from the current name on, and not at its last up to it.
     ahead: bool,
-    ghost settled: { IsSettled ahead (standings C.points C.place C.is_part parts.items) current },
+    ghost aligned: { IsAligned ahead (standings C.points C.place C.is_part parts.items) current },
     ghost encodable: { AreEncodable (merged (lists_of (standings C.points C.place C.is_part parts.items))) },
 }
 
@@ -63,21 +63,11 @@ impl<C: Cursor> Cursor for MergeCursor<C> {
     ghost in_range = { λ m. place_in-le m.ahead (cut_of m.ahead (head_of (heads (standings C.points C.place C.is_part m.parts.items)) m.current)) (merged (lists_of (standings C.points C.place C.is_part m.parts.items))) };
 
     fn seek_ge<L: Ledger>(&mut self, key: &[u8], looks: &mut Looks<L>)
-        requires { IsOk (name_of key.now) }
-        ensures same { ⟦<Self as Cursor>⟧.points self.new ≡ ⟦<Self as Cursor>⟧.points self.old }
-        ensures part { ⟦<Self as Cursor>⟧.is_part self.new ≡ ⟦<Self as Cursor>⟧.is_part self.old }
-        ensures place { ⟦<Self as Cursor>⟧.place self.new
-            ≡ count_below (name_in key.now) (⟦<Self as Cursor>⟧.points self.old) + 1 }
-        ensures some { 0 < length (⟦<Self as Cursor>⟧.points self.old) → looks.old < looks.new }
-        ensures later { looks.old ≤ looks.new }
-        ensures bound { IsTrue (⟦<Self as Cursor>⟧.is_part self.old)
-            → looks.new ≤ looks.old + bits (length (⟦<Self as Cursor>⟧.points self.old)) + 2 }
-
-        // The parts keep their points, and stand on the way on. Each is sought once, up to the name that is reached.
-        ensures lists { lists_in C.points self.new ≡ lists_in C.points self.old }
-        ensures parts { HasParts C.is_part self.old → HasParts C.is_part self.new }
-        ensures ahead { IsTrue (is_ahead self.new) }
-        ensures looks { HasParts C.is_part self.old → looks.new ≤ looks.old + seek_looks (lists_in C.points self.old) }
+        requires { IsName key.now }
+        ensures moves { let seen = ⟦<Self as Cursor>⟧ in
+            SeeksGe seen.points seen.place seen.is_part key.now self.old self.new looks.old looks.new }
+        ensures parts { let seen = ⟦<Self as Cursor>⟧ in
+            SeeksParts seen.points seen.place (lists_in C.points) (HasParts C.is_part) is_ahead key.now self.old self.new looks.old looks.new }
         ensures reached { let here = point_at (⟦<Self as Cursor>⟧.points self.new) (⟦<Self as Cursor>⟧.place self.new) in
             entries_before here (lists_in C.points self.old) ≡ entries_below (name_in key.now) (lists_in C.points self.old) }
     {
@@ -87,18 +77,10 @@ impl<C: Cursor> Cursor for MergeCursor<C> {
     }
 
     fn seek_lt<L: Ledger>(&mut self, key: &[u8], looks: &mut Looks<L>)
-        requires { IsOk (name_of key.now) }
-        ensures same { ⟦<Self as Cursor>⟧.points self.new ≡ ⟦<Self as Cursor>⟧.points self.old }
-        ensures part { ⟦<Self as Cursor>⟧.is_part self.new ≡ ⟦<Self as Cursor>⟧.is_part self.old }
-        ensures place { ⟦<Self as Cursor>⟧.place self.new ≡ count_below (name_in key.now) (⟦<Self as Cursor>⟧.points self.old) }
-        ensures some { 0 < length (⟦<Self as Cursor>⟧.points self.old) → looks.old < looks.new }
-        ensures later { looks.old ≤ looks.new }
-        ensures bound { IsTrue (⟦<Self as Cursor>⟧.is_part self.old)
-            → looks.new ≤ looks.old + bits (length (⟦<Self as Cursor>⟧.points self.old)) + 2 }
-
-        // The parts keep their points.
-        ensures lists { lists_in C.points self.new ≡ lists_in C.points self.old }
-        ensures parts { HasParts C.is_part self.old → HasParts C.is_part self.new }
+        requires { IsName key.now }
+        ensures moves { let seen = ⟦<Self as Cursor>⟧ in
+            SeeksLt seen.points seen.place seen.is_part key.now self.old self.new looks.old looks.new }
+        ensures parts { KeepsParts (lists_in C.points) (HasParts C.is_part) self.old self.new }
     {
         move_all(&mut self.parts, Move::SeekLt(key), looks);
         self.current = leading(&self.parts, false);
@@ -106,23 +88,10 @@ impl<C: Cursor> Cursor for MergeCursor<C> {
     }
 
     fn next<L: Ledger>(&mut self, looks: &mut Looks<L>)
-        ensures same { ⟦<Self as Cursor>⟧.points self.new ≡ ⟦<Self as Cursor>⟧.points self.old }
-        ensures part { ⟦<Self as Cursor>⟧.is_part self.new ≡ ⟦<Self as Cursor>⟧.is_part self.old }
-        ensures place { ⟦<Self as Cursor>⟧.place self.new
-            ≡ min (⟦<Self as Cursor>⟧.place self.old + 1) (length (⟦<Self as Cursor>⟧.points self.old) + 1) }
-        ensures some { 0 < ⟦<Self as Cursor>⟧.place self.old
-            → ⟦<Self as Cursor>⟧.place self.old ≤ length (⟦<Self as Cursor>⟧.points self.old) → looks.old < looks.new }
-        ensures later { looks.old ≤ looks.new }
-        ensures bound { IsTrue (⟦<Self as Cursor>⟧.is_part self.old) → looks.new ≤ looks.old + 1 }
-
-        // The parts keep their points, and stand on the way on. Where they stood so before, a look is one point of a part from the
-        // name that is left up to the one that is reached.
-        ensures lists { lists_in C.points self.new ≡ lists_in C.points self.old }
-        ensures parts { HasParts C.is_part self.old → HasParts C.is_part self.new }
-        ensures ahead { IsTrue (is_ahead self.new) }
-        ensures looks { HasParts C.is_part self.old → IsTrue (is_ahead self.old)
-            → looks.new + entries_before (point_at (⟦<Self as Cursor>⟧.points self.old) (⟦<Self as Cursor>⟧.place self.old)) (lists_in C.points self.old)
-            ≤ looks.old + entries_before (point_at (⟦<Self as Cursor>⟧.points self.new) (⟦<Self as Cursor>⟧.place self.new)) (lists_in C.points self.old) }
+        ensures moves { let seen = ⟦<Self as Cursor>⟧ in
+            GoesOn seen.points seen.place seen.is_part self.old self.new looks.old looks.new }
+        ensures parts { let seen = ⟦<Self as Cursor>⟧ in
+            PassesParts seen.points seen.place (lists_in C.points) (HasParts C.is_part) is_ahead self.old self.new looks.old looks.new }
     {
         go_on(&mut self.parts, self.current, self.ahead, looks);
         self.current = leading(&self.parts, true);
@@ -130,17 +99,9 @@ impl<C: Cursor> Cursor for MergeCursor<C> {
     }
 
     fn prev<L: Ledger>(&mut self, looks: &mut Looks<L>)
-        ensures same { ⟦<Self as Cursor>⟧.points self.new ≡ ⟦<Self as Cursor>⟧.points self.old }
-        ensures part { ⟦<Self as Cursor>⟧.is_part self.new ≡ ⟦<Self as Cursor>⟧.is_part self.old }
-        ensures place { ⟦<Self as Cursor>⟧.place self.new ≡ ⟦<Self as Cursor>⟧.place self.old - 1 }
-        ensures some { 0 < ⟦<Self as Cursor>⟧.place self.old
-            → ⟦<Self as Cursor>⟧.place self.old ≤ length (⟦<Self as Cursor>⟧.points self.old) → looks.old < looks.new }
-        ensures later { looks.old ≤ looks.new }
-        ensures bound { IsTrue (⟦<Self as Cursor>⟧.is_part self.old) → looks.new ≤ looks.old + 1 }
-
-        // The parts keep their points.
-        ensures lists { lists_in C.points self.new ≡ lists_in C.points self.old }
-        ensures parts { HasParts C.is_part self.old → HasParts C.is_part self.new }
+        ensures moves { let seen = ⟦<Self as Cursor>⟧ in
+            GoesBack seen.points seen.place seen.is_part self.old self.new looks.old looks.new }
+        ensures parts { KeepsParts (lists_in C.points) (HasParts C.is_part) self.old self.new }
     {
         go_back(&mut self.parts, self.current, self.ahead, looks);
         self.current = leading(&self.parts, false);

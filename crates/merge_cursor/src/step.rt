@@ -1,7 +1,7 @@
 //! The parts on the way on and back.
 ghost use Rattle.std.specs.Prelude.{◌≡◌, ◌≤◌, ◌<◌, ◌+◌, ℕ, true, false, IsSome, IsTrue, All, sum_by};
 ghost use Rattle.merge_cursor.specs.views.Moves.{cut_past, cut_before};
-ghost use Rattle.merge_cursor.specs.views.Standing.{standings, lists_of, point_of_part, cut_of, count_in, positioned, IsSettled};
+ghost use Rattle.merge_cursor.specs.views.Standing.{standings, lists_of, point_of_part, cut_of, count_in, positioned, IsAligned};
 
 use crate::moves::{Move, move_all};
 use crate::pass::pass;
@@ -16,7 +16,7 @@ pub(crate) fn go_on<C: Cursor, L: Ledger>(
     ahead: bool,
     looks: &mut Looks<L>,
 )
-    requires { IsSettled ahead (standings C.points C.place C.is_part parts.old) current }
+    requires { IsAligned ahead (standings C.points C.place C.is_part parts.old) current }
     ensures parts { let all = standings C.points C.place C.is_part in
         all parts.new ≡ positioned true (cut_past ahead (point_of_part (all parts.old) current)) (all parts.old) }
     ensures some { let all = standings C.points C.place C.is_part in
@@ -46,7 +46,7 @@ pub(crate) fn go_back<C: Cursor, L: Ledger>(
     ahead: bool,
     looks: &mut Looks<L>,
 )
-    requires { IsSettled ahead (standings C.points C.place C.is_part parts.old) current }
+    requires { IsAligned ahead (standings C.points C.place C.is_part parts.old) current }
     ensures parts { let all = standings C.points C.place C.is_part in
         all parts.new ≡ positioned false (cut_before ahead (point_of_part (all parts.old) current)) (all parts.old) }
     ensures some { let all = standings C.points C.place C.is_part in

@@ -1,10 +1,14 @@
-ghost use Rattle.std.specs.Prelude.{◌≡◌, ◌<◌, All, IfOk};
+ghost use Rattle.std.specs.Prelude.{◌≡◌, ◌<◌, ◌+◌, ◌^◌, length, All, IfOk};
+ghost use Rattle.mvcc_key.specs.Encoded.{name_in, IsName};
+ghost use Rattle.mvcc_key.specs.Points.{count_below};
 
 mod listed;
 
 use super::*;
 use listed::Listed;
-use mvcc_key::{Bytes, Cursor, Looks, OutOfMemory, PairsCursor, PointOp, decode_key};
+use mvcc_key::{
+    Bytes, Cursor, Looks, OutOfMemory, PairsCursor, PointOp, decode_key, next, seek_ge,
+};
 use std::alloc::Global;
 use std::marker::Brand;
 use std::sync::ledger::{Blank, Ledger};
@@ -123,7 +127,7 @@ fn walks_visible<L: Ledger>(alloc: Global, case: Case, blank: Blank) -> Result<b
     let mut looks = Looks::<L>::new(blank);
     let lists = lists_of(alloc, case.0)?;
     let merged = MergeCursor::over(cursors_over(alloc, lists.as_slice())?);
-    let mut cursor = VisibleCursor::of(merged);
+    let mut cursor = VisibleCursor::over(merged);
     Ok(walks(&mut cursor, case.1, &mut looks))
 }
 
@@ -318,6 +322,46 @@ const VISIBLE: [Case; 5] = [
 fn cleared_names_are_left_out(rt: HostRuntime) -> Result<(), Fail> {
     for case in VISIBLE {
         assert!(rt; walks_visible::<Brand>(rt.alloc(), case, Blank::new(1))?);
+    }
+    Ok(())
+}
+
+/// How many pairs stand at or above the encoded key.
+fn count_from<C: Cursor>(cursor: &mut C, key: &[u8]) -> u64
+    requires key { IsName key.now }
+    requires few { length (C.points cursor.old) < 2 ^ 63 }
+    ensures { count_below (name_in key.now) (C.points cursor.old) + result ≡ length (C.points cursor.old) }
+{
+    let mut count = 0;
+    seek_ge(cursor, key);
+    while cursor.key().is_some() {
+        count += 1;
+        next(cursor);
+    }
+    count
+}
+
+fn counted(pairs: &Listed, key: &[u8]) -> Option<u64> {
+    if decode_key(key).is_err() {
+        return None;
+    }
+    Some(count_from(&mut PairsCursor::over(pairs), key))
+}
+
+#[test]
+fn moves_need_no_counter(rt: HostRuntime) -> Result<(), Fail> {
+    let states = [A, (A_AT_2, Some(b"new".as_slice())), (A_AT_1, None), D];
+    let pairs = listed_of(rt.alloc(), &states)?;
+    let cases: [(&[u8], u64); 6] = [
+        (b"\x00", 4),
+        (b"a\x00", 4),
+        (A_AT_2, 3),
+        (A_AT_1, 2),
+        (b"b\x00", 1),
+        (b"e\x00", 0),
+    ];
+    for (key, count) in cases {
+        assert_eq!(rt; counted(&pairs, key), Some(count));
     }
     Ok(())
 }

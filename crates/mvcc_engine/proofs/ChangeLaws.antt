@@ -8,44 +8,48 @@ use Rattle.std.specs.Ordering.{is_lt, ordering_reverse, match_ordering}
 use Rattle.std.proofs.Common.{refl, sym, ap, ◌∙◌, subst, take-append-drop}
 use Rattle.mvcc_key.specs.Lists.{put_in_order, first, is_empty}
 use Rattle.mvcc_key.proofs.OrderLaws.{key_cmp-total}
+use Rattle.mvcc_key.proofs.EachLaws.{All-filter}
+use Rattle.mvcc_key.proofs.SortedLaws.{put_in_order-sorted}
+use Rattle.mvcc_key.proofs.HistoryLaws.{version_cmp-total}
 use Rattle.mvcc_key.specs.Order.{Key, Pair, key_cmp, pair_cmp, is_no_time, is_same_key, is_before}
 use Rattle.mvcc_key.specs.History.{Version, version_cmp}
 use Rattle.mvcc_key.specs.Fragments.{fragments, stack_at}
 use Rattle.mvcc_key.specs.Field.{Field}
 use Rattle.stat_core.specs.DeadSince.{shape_of}
 use Rattle.stat_core.specs.ComputeStats.{no_sums, key_sums, key_shape, is_record, length_of, intent_time, pairs_of, compute_stats, difference}
-use Rattle.stat_core.specs.Laws.{others_of, share, HasNoRecord}
 use Rattle.stat_core.proofs.KeyChangeLaws.{share-there, share-absent, difference-one_key, others_of-put}
 use Rattle.stat_core.proofs.NewVersionLaws.{difference-front_of_key}
-use Rattle.mvcc_engine.specs.StoredPairs.{stored_pair, stored_pairs}
+use Rattle.intent_meta.specs.StoredPairs.{stored_pairs}
 use Rattle.mvcc_engine.specs.Step.{statistics}
 use Rattle.mvcc_engine.specs.views.Places.{AreVersions, IsPlace, is_of_lower_key, version_at, history_of}
-use Rattle.mvcc_engine.specs.views.Change.{shape, shape_with, change_by}
-use Rattle.mvcc_engine.proofs.VersionLaws.{none_behind, not_same-Less, not_same-Greater, same-Equal, put_in_order-place, sorted-drop, timed-drop}
+use Rattle.mvcc_engine.specs.views.Change.{shape, shape_with, change_by, version_pair}
+use Rattle.mvcc_engine.proofs.PairLaws.{stored_pairs-versions}
+use Rattle.mvcc_engine.proofs.VersionLaws.{none-behind, not_same-Less, not_same-Greater, same-Equal, put_in_order-place, sorted-drop, timed-drop}
+use Rattle.stat_core.specs.Laws.{others_of, share, HasNoRecord}
 
 abbrev of_key : Key → List Version → List Version
 of_key key = filter (λ v. is_same_key v.key key)
 
 -- a version that is put among others is put among their pairs
-map-put : (new : Version) (vs : List Version) → map stored_pair (put_in_order version_cmp new vs) ≡ put_in_order pair_cmp (stored_pair new) (map stored_pair vs)
+map-put : (new : Version) (vs : List Version) → map version_pair (put_in_order version_cmp new vs) ≡ put_in_order pair_cmp (version_pair new) (map version_pair vs)
 map-put new [] = refl
 map-put new (v ∷ vs) = by (version_cmp new v) refl (map-put new vs)
   where
-    by : (o : Ordering) → version_cmp new v ≡ o → map stored_pair (put_in_order version_cmp new vs) ≡ put_in_order pair_cmp (stored_pair new) (map stored_pair vs)
-        → map stored_pair (match_ordering o (new ∷ v ∷ vs) (new ∷ vs) (v ∷ put_in_order version_cmp new vs))
-        ≡ match_ordering o (stored_pair new ∷ stored_pair v ∷ map stored_pair vs) (stored_pair new ∷ map stored_pair vs) (stored_pair v ∷ put_in_order pair_cmp (stored_pair new) (map stored_pair vs))
+    by : (o : Ordering) → version_cmp new v ≡ o → map version_pair (put_in_order version_cmp new vs) ≡ put_in_order pair_cmp (version_pair new) (map version_pair vs)
+        → map version_pair (match_ordering o (new ∷ v ∷ vs) (new ∷ vs) (v ∷ put_in_order version_cmp new vs))
+        ≡ match_ordering o (version_pair new ∷ version_pair v ∷ map version_pair vs) (version_pair new ∷ map version_pair vs) (version_pair v ∷ put_in_order pair_cmp (version_pair new) (map version_pair vs))
     by Less is rest = refl
     by Equal is rest = refl
-    by Greater is rest = ap (λ l. stored_pair v ∷ l) rest
+    by Greater is rest = ap (λ l. version_pair v ∷ l) rest
 
 -- the pairs of a key are those of its versions
-pairs_of-map : (key : Key) (vs : List Version) → pairs_of key (map stored_pair vs) ≡ map stored_pair (of_key key vs)
+pairs_of-map : (key : Key) (vs : List Version) → pairs_of key (map version_pair vs) ≡ map version_pair (of_key key vs)
 pairs_of-map key [] = refl
 pairs_of-map key (v ∷ vs) = by (is_same_key v.key key) (pairs_of-map key vs)
   where
-    by : (b : Bool) → pairs_of key (map stored_pair vs) ≡ map stored_pair (of_key key vs)
-        → cond b (stored_pair v ∷ pairs_of key (map stored_pair vs)) (pairs_of key (map stored_pair vs)) ≡ map stored_pair (cond b (v ∷ of_key key vs) (of_key key vs))
-    by true rest = ap (λ l. stored_pair v ∷ l) rest
+    by : (b : Bool) → pairs_of key (map version_pair vs) ≡ map version_pair (of_key key vs)
+        → cond b (version_pair v ∷ pairs_of key (map version_pair vs)) (pairs_of key (map version_pair vs)) ≡ map version_pair (cond b (v ∷ of_key key vs) (of_key key vs))
+    by true rest = ap (λ l. version_pair v ∷ l) rest
     by false rest = rest
 
 -- versions of lower keys are none of the key
@@ -68,7 +72,7 @@ module _ (key : Key) where
       by : (o : Ordering) → key_cmp v.key key ≡ o → is_lt o ≡ false → cond (is_same_key v.key key) (Some v) None ≡ None → of_key key (v ∷ vs) ≡ []
       by Less is higher none = cc
       by Equal is higher none = let some : cond (is_same_key v.key key) (Some v) None ≡ Some v = rw (same-Equal v.key key is) refl in cc
-      by Greater is higher none = rw (not_same-Greater v.key key is) (none_behind key v vs is sorted.0)
+      by Greater is higher none = rw (not_same-Greater v.key key is) (none-behind key v vs is sorted.0)
 
   of_key-some : (vs : List Version) (v : Version) → version_at key vs ≡ Some v → (rest : List Version) × (of_key key vs ≡ v ∷ rest)
   of_key-some [] v is = cc
@@ -78,34 +82,25 @@ module _ (key : Key) where
       by true e = let same : w ≡ v = cc in (of_key key ws, ap (λ x. x ∷ of_key key ws) same)
       by false e = cc
 
--- a test that all pass, those that are left by another pass too
-all-filter : {X : Type 0} (P : X → Type 0) (test : X → Bool) (xs : List X) → AllByRecursion P xs → AllByRecursion P (filter test xs)
-all-filter P test [] all = tt
-all-filter P test (x ∷ xs) all = by (test x) (all-filter P test xs all.1)
-  where
-    by : (b : Bool) → AllByRecursion P (filter test xs) → AllByRecursion P (cond b (x ∷ filter test xs) (filter test xs))
-    by true rest = (all.0, rest)
-    by false rest = rest
-
 -- versions at timestamps are no records
-no_record : (vs : List Version) → AllByRecursion (λ v. is_no_time v.ts ≡ false) vs → HasNoRecord (map stored_pair vs)
+no_record : (vs : List Version) → AllByRecursion (λ v. is_no_time v.ts ≡ false) vs → HasNoRecord (map version_pair vs)
 no_record [] timed = tt
 no_record (v ∷ vs) timed = (timed.0, no_record vs timed.1)
 
-find-none : (vs : List Version) → AllByRecursion (λ v. is_no_time v.ts ≡ false) vs → find is_record (map stored_pair vs) ≡ None
+find-none : (vs : List Version) → AllByRecursion (λ v. is_no_time v.ts ≡ false) vs → find is_record (map version_pair vs) ≡ None
 find-none [] timed = refl
 find-none (v ∷ vs) timed = rw timed.0 (find-none vs timed.1)
 
-shapes-all : (vs : List Version) → AllByRecursion (λ v. is_no_time v.ts ≡ false) vs → map shape_of (filter (λ p. not (is_record p)) (map stored_pair vs)) ≡ map shape vs
+shapes-all : (vs : List Version) → AllByRecursion (λ v. is_no_time v.ts ≡ false) vs → map shape_of (filter (λ p. not (is_record p)) (map version_pair vs)) ≡ map shape vs
 shapes-all [] timed = refl
 shapes-all (v ∷ vs) timed = rw timed.0 (ap (λ l. shape v ∷ l) (shapes-all vs timed.1))
 
 -- what the statistics see of a key by the pairs of its versions
-key_shape-is : (key : Key) (vs : List Version) → AllByRecursion (λ v. is_no_time v.ts ≡ false) vs → key_shape key (map stored_pair vs) [] ≡ shape_with key vs
+key_shape-is : (key : Key) (vs : List Version) → AllByRecursion (λ v. is_no_time v.ts ≡ false) vs → key_shape key (map version_pair vs) [] ≡ shape_with key vs
 key_shape-is key vs timed =
     let none = find-none vs timed in
     let shapes = shapes-all vs timed in
-    ap (λ r. record { key_length = length key; record_length = length_of r; intent = intent_time r (map shape_of (filter (λ p. not (is_record p)) (map stored_pair vs))); versions = map shape_of (filter (λ p. not (is_record p)) (map stored_pair vs)); stack = [] }) none
+    ap (λ r. record { key_length = length key; record_length = length_of r; intent = intent_time r (map shape_of (filter (λ p. not (is_record p)) (map version_pair vs))); versions = map shape_of (filter (λ p. not (is_record p)) (map version_pair vs)); stack = [] }) none
     ∙ ap (λ l. record { key_length = length key; record_length = 0; intent = None; versions = l; stack = [] }) shapes
 
 -- no tombstone is over any key where there is none
@@ -139,39 +134,44 @@ module _ (new : Version) (vs : List Version) (place : ℕ) (are : AreVersions vs
   sorted_behind = sorted-drop version_cmp place vs are.sorted
 
   timed_behind : AllByRecursion (λ v. is_no_time v.ts ≡ false) (of_key new.key (drop place vs))
-  timed_behind = all-filter (λ v. is_no_time v.ts ≡ false) (λ v. is_same_key v.key new.key) (drop place vs) (timed-drop place vs are.timed)
+  timed_behind = All-filter (λ v. is_no_time v.ts ≡ false) (λ v. is_same_key v.key new.key) (drop place vs) (timed-drop place vs are.timed)
 
-  others_stay : others_of new.key (map stored_pair vs) ≡ others_of new.key (map stored_pair (put_in_order version_cmp new vs))
-  others_stay = sym (ap (others_of new.key) (map-put new vs) ∙ others_of-put (stored_pair new) (map stored_pair vs) new.key (same-self new.key))
+  others_stay : others_of new.key (map version_pair vs) ≡ others_of new.key (map version_pair (put_in_order version_cmp new vs))
+  others_stay = sym (ap (others_of new.key) (map-put new vs) ∙ others_of-put (version_pair new) (map version_pair vs) new.key (same-self new.key))
 
-  pairs_before : pairs_of new.key (map stored_pair vs) ≡ map stored_pair (of_key new.key (drop place vs))
-  pairs_before = pairs_of-map new.key vs ∙ ap (map stored_pair) of_key-before
+  pairs_before : pairs_of new.key (map version_pair vs) ≡ map version_pair (of_key new.key (drop place vs))
+  pairs_before = pairs_of-map new.key vs ∙ ap (map version_pair) of_key-before
 
-  pairs_after : pairs_of new.key (map stored_pair (put_in_order version_cmp new vs)) ≡ map stored_pair (new ∷ of_key new.key (drop place vs))
-  pairs_after = pairs_of-map new.key (put_in_order version_cmp new vs) ∙ ap (map stored_pair) of_key-after
+  pairs_after : pairs_of new.key (map version_pair (put_in_order version_cmp new vs)) ≡ map version_pair (new ∷ of_key new.key (drop place vs))
+  pairs_after = pairs_of-map new.key (put_in_order version_cmp new vs) ∙ ap (map version_pair) of_key-after
 
   -- what a key adds by its pairs
   sums-are : (now : ℕ) (us : List Version) → AllByRecursion (λ v. is_no_time v.ts ≡ false) us
-      → key_sums now (key_shape new.key (map stored_pair us) (stack_at (fragments []) new.key)) ≡ key_sums now (shape_with new.key us)
-  sums-are now us timed' = ap (λ s. key_sums now (key_shape new.key (map stored_pair us) s)) (no_stack new.key) ∙ ap (key_sums now) (key_shape-is new.key us timed')
+      → key_sums now (key_shape new.key (map version_pair us) (stack_at (fragments []) new.key)) ≡ key_sums now (shape_with new.key us)
+  sums-are now us timed' = ap (λ s. key_sums now (key_shape new.key (map version_pair us) s)) (no_stack new.key) ∙ ap (key_sums now) (key_shape-is new.key us timed')
 
   -- the statistics change by what the version and the newest one of its key tell
   pub statistics-change : (now : ℕ) (f : Field)
       → difference (statistics now (history_of vs)) (statistics now (history_of (put_in_order version_cmp new vs))) f ≡ change_by now new (version_at new.key (drop place vs)) f
-  unfolding statistics stored_pairs
-  statistics-change now f = by (version_at new.key (drop place vs)) refl
+  unfolding statistics
+  statistics-change now f =
+      let pairs_before : stored_pairs (history_of vs) ≡ map version_pair vs = stored_pairs-versions vs are.sorted in
+      let pairs_after : stored_pairs (history_of (put_in_order version_cmp new vs)) ≡ map version_pair (put_in_order version_cmp new vs) =
+      stored_pairs-versions (put_in_order version_cmp new vs) (put_in_order-sorted version_cmp-total new vs are.sorted) in
+      (λ i. difference (compute_stats now (pairs_before i) (fragments [])) (compute_stats now (pairs_after i) (fragments [])) f)
+      ∙ by (version_at new.key (drop place vs)) refl
     where
       before : List Pair
-      before = map stored_pair vs
+      before = map version_pair vs
 
       after : List Pair
-      after = map stored_pair (put_in_order version_cmp new vs)
+      after = map version_pair (put_in_order version_cmp new vs)
 
       by : (o : Option Version) → version_at new.key (drop place vs) ≡ o → difference (compute_stats now before (fragments [])) (compute_stats now after (fragments [])) f ≡ change_by now new o f
       by None none =
           let nothing : of_key new.key (drop place vs) ≡ [] = of_key-none new.key (drop place vs) sorted_behind is.failed none in
-          let absent : pairs_of new.key before ≡ [] = pairs_before ∙ ap (map stored_pair) nothing in
-          let one : pairs_of new.key after ≡ stored_pair new ∷ [] = pairs_after ∙ ap (λ l. stored_pair new ∷ map stored_pair l) nothing in
+          let absent : pairs_of new.key before ≡ [] = pairs_before ∙ ap (map version_pair) nothing in
+          let one : pairs_of new.key after ≡ version_pair new ∷ [] = pairs_after ∙ ap (λ l. version_pair new ∷ map version_pair l) nothing in
           let share_before : share now before (fragments []) new.key ≡ no_sums = share-absent now before (fragments []) new.key (ap is_empty absent) in
           let share_after : share now after (fragments []) new.key ≡ key_sums now (shape_with new.key (new ∷ [])) =
           share-there now after (fragments []) new.key (ap is_empty one)
@@ -182,8 +182,8 @@ module _ (new : Version) (vs : List Version) (place : ℕ) (are : AreVersions vs
       by (Some old) some =
           let split = of_key-some new.key (drop place vs) old some in
           let rest : List Version = split.0 in
-          let own : pairs_of new.key before ≡ [] ++ stored_pair old ∷ map stored_pair rest = pairs_before ∙ ap (map stored_pair) split.1 in
-          let own' : pairs_of new.key after ≡ (stored_pair new ∷ []) ++ stored_pair old ∷ map stored_pair rest = pairs_after ∙ ap (λ l. stored_pair new ∷ map stored_pair l) split.1 in
+          let own : pairs_of new.key before ≡ [] ++ version_pair old ∷ map version_pair rest = pairs_before ∙ ap (map version_pair) split.1 in
+          let own' : pairs_of new.key after ≡ (version_pair new ∷ []) ++ version_pair old ∷ map version_pair rest = pairs_after ∙ ap (λ l. version_pair new ∷ map version_pair l) split.1 in
           let timed' : AllByRecursion (λ v. is_no_time v.ts ≡ false) (old ∷ rest) = subst (AllByRecursion (λ v. is_no_time v.ts ≡ false)) split.1 timed_behind in
-          difference-front_of_key now before after (fragments []) new.key [] (stored_pair new ∷ []) (stored_pair old) (map stored_pair rest) f others_stay own own' (no_record (old ∷ rest) timed')
+          difference-front_of_key now before after (fragments []) new.key [] (version_pair new ∷ []) (version_pair old) (map version_pair rest) f others_stay own own' (no_record (old ∷ rest) timed')
           ∙ (λ i. difference (sums-are now (old ∷ []) (timed'.0, tt) i) (sums-are now (new ∷ old ∷ []) (timed, (timed'.0, tt)) i) f)

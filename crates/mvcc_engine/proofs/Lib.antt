@@ -1,3 +1,4 @@
+pub mod PairLaws
 -- What each module of lemmas speaks of.
 pub mod SpelledLaws
 pub mod VersionLaws
@@ -8,3 +9,4 @@ pub mod RuleLaws
 pub mod KeptLaws
 pub mod PlanLaws
 pub mod StepLaws
+pub mod OutsideLaws

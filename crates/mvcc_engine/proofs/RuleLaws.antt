@@ -1,5 +1,5 @@
 -- What a read and a write answer, by the place of the key.
-use Rattle.std.specs.Prelude.{◌≡◌, ℕ, ◌+◌, max, Bool, true, false, List, [], ◌∷◌, drop, map, filter, count_by, cond, Option, Some, None, Ok, Err, IfSome}
+use Rattle.std.specs.Prelude.{◌≡◌, ℕ, ◌+◌, Bool, true, false, List, [], ◌∷◌, drop, map, filter, count_by, cond, Option, Some, None, Ok, Err, IfSome}
 use Rattle.std.specs.List.{AllByRecursion}
 use Rattle.std.specs.Option.{option_map}
 use Rattle.std.proofs.Common.{refl, sym, ap, ◌∙◌}
@@ -10,9 +10,9 @@ use Rattle.mvcc_key.specs.Field.{Field}
 use Rattle.mvcc_key.specs.Refusal.{Refusal, TooOld, CountOverflow}
 use Rattle.stat_core.specs.ComputeStats.{overflowing}
 use Rattle.lsm_store.specs.Parts.{Part}
-use Rattle.mvcc_engine.specs.Read.{get, item_row}
-use Rattle.mvcc_engine.specs.Write.{checked, past_newest, new_version, is_present, write}
-use Rattle.mvcc_engine.specs.Step.{State, Reply, statistics, settled, parts_after, change}
+use Rattle.mvcc_engine.specs.views.Outside.{get, item_row}
+use Rattle.mvcc_engine.specs.views.Outside.{checked, past_newest, new_version, is_present, write}
+use Rattle.mvcc_engine.specs.Step.{State, Reply, statistics, stored_walls, greatest, settled, parts_after, change}
 use Rattle.mvcc_engine.specs.views.Places.{AreVersions, is_ahead, is_of_lower_key, version_at, newest_version, in_the_way, history_of}
 use Rattle.mvcc_engine.specs.views.Seen.{Tells}
 use Rattle.mvcc_key.proofs.OrderLaws.{not_up_to-before, not_up_to-none}
@@ -21,7 +21,7 @@ use Rattle.mvcc_engine.proofs.StoredLaws.{IsPlace-lower, IsPlace-ahead, row-foun
 use Rattle.mvcc_key.specs.Points.{Point, point_at, count_below}
 use Rattle.mvcc_engine.specs.declared.version.VersionRef.{VersionRef}
 use Rattle.mvcc_engine.specs.views.Lent.{lent_point}
-use Rattle.mvcc_engine.specs.views.Stored.{version_of, versions_of, of_key, IsVersion}
+use Rattle.mvcc_engine.specs.views.Stored.{stored_version, stored_versions, of_key, IsVersion}
 
 -- a read answers the version at its place
 pub get-place : (key : Key) (ts : Timestamp) (vs : List Version) → AreVersions vs
@@ -46,15 +46,15 @@ unfolding get
 get-none key ts vs nothing are = sym (ap (λ l. item_row key (newest_at ts l)) (items-history_of key vs are) ∙ ap (item_row key) (none_at key ts vs nothing are.timed))
 
 -- a read answers what a seek to its name finds
-pub get-found : (key : Key) (ts : Timestamp) (ps points : List Point) (place : ℕ) (found : Option VersionRef) → AreVersions (versions_of ps) → AllByRecursion IsVersion ps → is_no_time ts ≡ false
+pub get-found : (key : Key) (ts : Timestamp) (ps points : List Point) (place : ℕ) (found : Option VersionRef) → AreVersions (stored_versions ps) → AllByRecursion IsVersion ps → is_no_time ts ≡ false
     → place ≡ count_below (record { key = key; ts = ts }) ps + 1 → points ≡ ps → option_map (lent_point key) found ≡ of_key key (point_at points place)
-    → item_row key (option_map (λ v. version_item (version_of (lent_point key v))) found) ≡ get (history_of (versions_of ps)) key ts
+    → item_row key (option_map (λ v. version_item (stored_version (lent_point key v))) found) ≡ get (history_of (stored_versions ps)) key ts
 get-found key ts ps points place found are all some is same lent =
-    sym (get-place key ts (versions_of ps) are
+    sym (get-place key ts (stored_versions ps) are
     ∙ ap (λ o. item_row key (option_map version_item o)) (row-found key ts ps place found all some is (lent ∙ ap (λ l. of_key key (point_at l place)) same))
     ∙ ap (item_row key) (by found))
   where
-    by : (found : Option VersionRef) → option_map version_item (option_map (λ v. version_of (lent_point key v)) found) ≡ option_map (λ v. version_item (version_of (lent_point key v))) found
+    by : (found : Option VersionRef) → option_map version_item (option_map (λ v. stored_version (lent_point key v)) found) ≡ option_map (λ v. version_item (stored_version (lent_point key v))) found
     by None = refl
     by (Some v) = refl
 
@@ -91,21 +91,21 @@ past-stopped ts (Some v) body t stopped = by (is_before v.ts ts) refl stopped
 
 module _ (s : State) (key : Key) (ts : Timestamp) (body : Body) (reply : Bool → Reply) where
   -- what the tests of key, value and timestamp tell, the write tells
-  pub change-unchecked : (why : Option Refusal) → Tells why (checked key ts body) → Tells why (change s ts reply (write s.history key ts body))
+  pub change-unchecked : (why : Option Refusal) → Tells why (checked key ts body) → Tells why (change s reply (write s.history key ts body))
   unfolding write
   change-unchecked None told = tt
   change-unchecked (Some why) told = rw told refl
 
   -- and what stands in its way
   pub change-in_the_way : (why : Option Refusal) (item : Option Item) → checked key ts body ≡ Ok body → newest (items s.history key) ≡ item → Tells why (past_newest ts item body)
-      → Tells why (change s ts reply (write s.history key ts body))
+      → Tells why (change s reply (write s.history key ts body))
   unfolding write
   change-in_the_way None item sound is told = tt
   change-in_the_way (Some why) item sound is told = rw (sound, is, told) refl
 
   -- a write with nothing in its way is settled
   pub change-free : (item : Option Item) → checked key ts body ≡ Ok body → newest (items s.history key) ≡ item → past_newest ts item body ≡ Ok body
-      → change s ts reply (write s.history key ts body) ≡ settled s (with_version (new_version key ts body) s.history) (max s.last ts.wall) (parts_after s (with_version (new_version key ts body) s.history)) (reply (is_present item))
+      → change s reply (write s.history key ts body) ≡ settled s (with_version (new_version key ts body) s.history) (greatest s.last (stored_walls (with_version (new_version key ts body) s.history))) (parts_after s (with_version (new_version key ts body) s.history)) (reply (is_present item))
   unfolding write
   change-free item sound is free = rw (sound, is, free) refl
 

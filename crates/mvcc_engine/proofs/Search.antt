@@ -42,8 +42,8 @@ key_before : (v w : Version) (o : Ordering) → key_cmp v.key w.key ≡ o → ve
 key_before v w o is less higher = let above : version_cmp v w ≡ Greater = rw higher refl in cc
 
 -- what is before a version of a lower key is of a lower key
-pub lower_back : (key : Key) (v w : Version) → is_no_time v.ts ≡ false → is_no_time w.ts ≡ false → version_cmp v w ≡ Less → is_of_lower_key key w ≡ true → is_of_lower_key key v ≡ true
-lower_back key v w timed timed' less lower = by (key_cmp v.key w.key) refl (less_of (key_cmp w.key key) lower)
+pub lower-back : (key : Key) (v w : Version) → is_no_time v.ts ≡ false → is_no_time w.ts ≡ false → version_cmp v w ≡ Less → is_of_lower_key key w ≡ true → is_of_lower_key key v ≡ true
+lower-back key v w timed timed' less lower = by (key_cmp v.key w.key) refl (less_of (key_cmp w.key key) lower)
   where
     by : (o : Ordering) → key_cmp v.key w.key ≡ o → key_cmp w.key key ≡ Less → is_lt (key_cmp v.key key) ≡ true
     by Less is low = let e : key_cmp v.key key ≡ Less = key_cmp-total.trans v.key w.key key is low in rw e refl
@@ -51,8 +51,8 @@ lower_back key v w timed timed' less lower = by (key_cmp v.key w.key) refl (less
     by Greater is low = absurd (key_before v w Greater is less is)
 
 -- what is before a version that stands ahead of a read stands ahead of it
-pub ahead_back : (key : Key) (ts : Timestamp) (v w : Version) → is_no_time v.ts ≡ false → is_no_time w.ts ≡ false → version_cmp v w ≡ Less → is_ahead key ts w ≡ true → is_ahead key ts v ≡ true
-ahead_back key ts v w timed timed' less ahead = by (key_cmp v.key w.key) (key_cmp w.key key) refl refl ahead
+pub ahead-back : (key : Key) (ts : Timestamp) (v w : Version) → is_no_time v.ts ≡ false → is_no_time w.ts ≡ false → version_cmp v w ≡ Less → is_ahead key ts w ≡ true → is_ahead key ts v ≡ true
+ahead-back key ts v w timed timed' less ahead = by (key_cmp v.key w.key) (key_cmp w.key key) refl refl ahead
   where
     newer : key_cmp v.key w.key ≡ Equal → time_cmp w.ts v.ts ≡ Less
     newer same = sym (version_cmp-of_one v w timed timed' same) ∙ less

@@ -1,5 +1,5 @@
 -- What a command does to the state, by the versions and the running statistics.
-use Rattle.std.specs.Prelude.{◌≡◌, ℕ, ◌≤◌, ◌<◌, true, false, Option, Some, None, Result, Ok, Err, OnOk, OnErr, ⊤, nat_lt}
+use Rattle.std.specs.Prelude.{◌≡◌, ℕ, ◌≤◌, ◌<◌, true, false, [], Option, Some, None, Result, Ok, Err, OnOk, OnErr, ⊤, nat_lt}
 use Rattle.std.proofs.Common.{refl, sym, ap, ◌∙◌, subst, arith}
 use Rattle.std.proofs.lemmas.Bool.Decides.{nat_tests}
 use Rattle.mvcc_key.specs.Order.{Timestamp, Key}
@@ -12,11 +12,12 @@ use Rattle.mvcc_engine.specs.Step.{State, Put, Age, Flush, Compact, Finished, st
 use Rattle.mvcc_key.specs.declared.memory.OutOfMemory.{OutOfMemory}
 use Rattle.lsm_store.specs.Parts.{flushed, compacted}
 use Rattle.mvcc_engine.specs.views.Stored.{Held}
-use Rattle.mvcc_engine.specs.Write.{write}
+use Rattle.mvcc_engine.specs.views.Outside.{write}
 use Rattle.mvcc_engine.specs.views.Seen.{Tells, AnswersUnlessFull}
 use Rattle.mvcc_engine.specs.views.Places.{history_of}
 use Rattle.mvcc_engine.proofs.PlanLaws.{state_of}
 use Rattle.mvcc_engine.proofs.RuleLaws.{settled-over, settled-within}
+use Rattle.mvcc_engine.proofs.OutsideLaws.{put-steps}
 
 -- a moment before the latest is refused
 pub age-early : (s : State) (now : ℕ) → now < s.last → step s (Age now) ≡ Err (MomentTooEarly s.last)
@@ -38,17 +39,15 @@ module _ (s : State) (now : ℕ) (up : s.last ≤ now) where
   unfolding step
   age-taken fits = rw in_time (settled-within s s.history now s.parts Finished fits)
 
-module _ (s : State) (key : Key) (ts : Timestamp) (given body : Body) (same : given ≡ body) where
+module _ (s : State) (none : s.history.intents ≡ []) (key : Key) (ts : Timestamp) (given body : Body) (same : given ≡ body) where
   -- a put is refused as the write of its value is
-  pub put-refused : (why : Option Refusal) → Tells why (change s ts (λ there. Finished) (write s.history key ts given)) → Tells why (step s (Put key ts body))
-  unfolding step
-  put-refused why told = subst (λ b. Tells why (change s ts (λ there. Finished) (write s.history key ts b))) same told
+  pub put-refused : (why : Option Refusal) → Tells why (change s (λ there. Finished) (write s.history key ts given)) → Tells why (step s (Put key ts body))
+  put-refused why told = subst (Tells why) (sym (put-steps s none key ts body)) (subst (λ b. Tells why (change s (λ there. Finished) (write s.history key ts b))) same told)
 
   -- and taken as that is
-  pub put-taken : (new : State) → change s ts (λ there. Finished) (write s.history key ts given) ≡ Ok (record { state = new; reply = Finished })
+  pub put-taken : (new : State) → change s (λ there. Finished) (write s.history key ts given) ≡ Ok (record { state = new; reply = Finished })
       → step s (Put key ts body) ≡ Ok (record { state = new; reply = Finished })
-  unfolding step
-  put-taken new taken = subst (λ b. change s ts (λ there. Finished) (write s.history key ts b) ≡ Ok (record { state = new; reply = Finished })) same taken
+  put-taken new taken = put-steps s none key ts body ∙ subst (λ b. change s (λ there. Finished) (write s.history key ts b) ≡ Ok (record { state = new; reply = Finished })) same taken
 
 -- a flush and a compaction are answered as their steps say
 module _ (old new : Held) (r : Running) (s : State) (view : state_of old r ≡ s) where

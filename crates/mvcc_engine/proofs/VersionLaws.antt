@@ -84,11 +84,11 @@ items-history_of key vs are =
     ∙ in_order-same item_cmp _ (items_in_order key vs are.timed are.sorted)
 
 -- behind a version of a higher key none is of the key
-pub none_behind : (key : Key) (v : Version) (vs : List Version) → key_cmp v.key key ≡ Greater → AllByRecursion (λ w. version_cmp v w ≡ Less) vs
+pub none-behind : (key : Key) (v : Version) (vs : List Version) → key_cmp v.key key ≡ Greater → AllByRecursion (λ w. version_cmp v w ≡ Less) vs
     → filter (λ w. is_same_key w.key key) vs ≡ []
-none_behind key v [] higher below = refl
-none_behind key v (w ∷ ws) higher below =
-    rw (is_same_key-is_eq w.key key ∙ by (key_cmp w.key key) refl) (none_behind key v ws higher below.1)
+none-behind key v [] higher below = refl
+none-behind key v (w ∷ ws) higher below =
+    rw (is_same_key-is_eq w.key key ∙ by (key_cmp w.key key) refl) (none-behind key v ws higher below.1)
   where
     ordered : key_cmp v.key w.key ≡ Equal → key_cmp w.key key ≡ Greater
     ordered same = sym (key_cmp-total.congr v.key w.key key same) ∙ higher
@@ -158,7 +158,7 @@ module _ (key : Key) (ts : Timestamp) where
           → newest_at ts (items_among key (v ∷ vs)) ≡ option_map version_item (version_at key (v ∷ vs))
       by Less is first = cc
       by Equal is first = rw (same-Equal v.key key is, up_to-not_before ts v.ts first) refl
-      by Greater is first = rw (not_same-Greater v.key key is, none_behind key v vs is sorted.0) refl
+      by Greater is first = rw (not_same-Greater v.key key is, none-behind key v vs is sorted.0) refl
 
 -- what stands before a key is not of it
 newest-lower : (key : Key) (xs ys : List Version) → AllByRecursion (λ v. is_of_lower_key key v ≡ true) xs
@@ -183,7 +183,7 @@ newest-first key (v ∷ vs) sorted behind = by (key_cmp v.key key) refl behind
         → newest (items_among key (v ∷ vs)) ≡ option_map version_item (version_at key (v ∷ vs))
     by Less is first = cc
     by Equal is first = rw (same-Equal v.key key is) refl
-    by Greater is first = rw (not_same-Greater v.key key is, none_behind key v vs is sorted.0) refl
+    by Greater is first = rw (not_same-Greater v.key key is, none-behind key v vs is sorted.0) refl
 
 -- the end of a list in strict order is in strict order
 pub sorted-drop : {X : Type 0} (cmp : X → X → Ordering) (i : ℕ) (xs : List X) → IsStrictlySortedBy cmp xs → IsStrictlySortedBy cmp (drop i xs)

@@ -1,5 +1,2 @@
-pub mod StoredPairs
-pub mod Read
-pub mod Write
 pub mod Step
 pub mod views

@@ -1,17 +1,19 @@
 -- One command: its answer, and the state after it.
-use Rattle.std.specs.Prelude.{ℕ, max, Bool, List, Option, Some, None, Result, Ok, Err, nat_lt}
+use Rattle.std.specs.Prelude.{ℕ, max, List, ◌++◌, map, fold, Bool, false, Option, Some, None, Result, Ok, Err, nat_lt}
 use Rattle.mvcc_key.specs.Steps.{◌>>=◌, unless_fault}
-use Rattle.mvcc_key.specs.Order.{Timestamp, Key}
-use Rattle.mvcc_key.specs.History.{Body, Deletion, History, Changed, empty_history}
+use Rattle.mvcc_key.specs.Order.{Timestamp, no_time, Key}
+use Rattle.mvcc_key.specs.History.{Body, History, Changed, empty_history}
 use Rattle.mvcc_key.specs.Fragments.{fragments}
 use Rattle.mvcc_key.specs.Field.{Field}
 use Rattle.mvcc_key.specs.Refusal.{Refusal, MomentTooEarly, CountOverflow}
 use Rattle.mvcc_value.specs.Found.{Found}
+use Rattle.intent_meta.specs.StoredPairs.{stored_pairs}
 use Rattle.stat_core.specs.ComputeStats.{Sums, compute_stats, overflowing}
 use Rattle.lsm_store.specs.Parts.{Part, Stage, first_parts, after_batch, flushed, compacted, PartShape, layout}
-use Rattle.mvcc_engine.specs.StoredPairs.{stored_pairs}
-use Rattle.mvcc_engine.specs.Read.{get}
-use Rattle.mvcc_engine.specs.Write.{write}
+use Rattle.txn_state.specs.Transaction.{At}
+use Rattle.read_rule.specs.Read.{ReadRequest, get}
+use Rattle.write_rule.specs.Write as rule
+use Rattle.write_rule.specs.Write.{WriteKind, WriteRequest, WriteAnswer, write}
 
 -- the history, the latest moment that was stored or aged to, the bound on each of the statistics, and what each part names
 pub record State : Type 0 where
@@ -56,6 +58,15 @@ stage h = record { pairs = stored_pairs h; fragments = fragments h.tombstones }
 unfoldable pub statistics : ℕ → History → Sums
 statistics now h = compute_stats now (stored_pairs h) (fragments h.tombstones)
 
+-- the wall times at which something is stored
+abbrev pub stored_walls : History → List ℕ
+stored_walls h =
+    map (λ v. v.ts.wall) h.versions ++ map (λ i. i.ts.wall) h.intents ++ map (λ t. t.ts.wall) h.tombstones
+
+-- the greatest of a number and a list
+abbrev pub greatest : ℕ → List ℕ → ℕ
+greatest n walls = fold max n walls
+
 -- goes on where no statistic passes the bound
 abbrev pub unless_overflow : {A : Type 0} → Option Field → A → Result A Refusal
 unless_overflow None x = Ok x
@@ -75,11 +86,34 @@ parts_between before after parts = after_batch (stage before) (stage after) part
 abbrev pub parts_after : State → History → List Part
 parts_after s h = parts_between s.history h s.parts
 
--- the state after a write at a timestamp
-abbrev pub change : State → Timestamp → (Bool → Reply) → Result (Changed Bool) Refusal → Result Stepped Refusal
-change s ts reply written = do
+-- a read at a timestamp, outside transactions
+abbrev pub read_at : Timestamp → ReadRequest
+read_at ts = record {
+  who = At ts;
+  options = record { local_limit = no_time; inconsistent = false; fail_more_recent = false };
+}
+
+-- a write at a timestamp, outside transactions, with no local timestamp
+abbrev pub write_at : Timestamp → WriteKind → WriteRequest
+write_at ts kind = record { who = At ts; kind = kind; local = no_time }
+
+-- what a deletion is answered
+abbrev pub deleted : WriteAnswer → Reply
+deleted rule.Done = Finished
+deleted (rule.WasThere there) = WasThere there
+deleted (rule.Number number) = Finished
+
+-- the state after a write, or why it is refused: its moment is the latest of those that it had and of all that are stored
+abbrev pub change : {A : Type 0} → State → (A → Reply) → Result (Changed A) Refusal → Result Stepped Refusal
+change s reply written = do
   c ← written
-  settled s c.history (max s.last ts.wall) (parts_after s c.history) (reply c.answer)
+  settled s c.history (greatest s.last (stored_walls c.history)) (parts_after s c.history) (reply c.answer)
+
+-- a read leaves the state
+abbrev pub answered : {A : Type 0} → State → (A → Reply) → Result A Refusal → Result Stepped Refusal
+answered s reply result = do
+  a ← result
+  Ok (record { state = s; reply = reply a })
 
 -- the state at a later moment
 abbrev pub age_to : State → ℕ → Result Stepped Refusal
@@ -89,11 +123,11 @@ age_to s now = do
 
 -- the answer to a command and the state after it, or why it is refused; a refused command leaves the state
 unfoldable pub step : State → Command → Result Stepped Refusal
-step s (Put key ts value) = change s ts (λ there. Finished) (write s.history key ts value)
-step s (Delete key ts) = change s ts WasThere (write s.history key ts Deletion)
+step s (Put key ts value) = change s (λ done. Finished) (write s.history key (write_at ts (rule.Put value)))
+step s (Delete key ts) = change s deleted (write s.history key (write_at ts rule.Delete))
 step s (Age now) = age_to s now
 step s Flush = Ok (record { state = record s { parts = flushed s.parts }; reply = Finished })
 step s (Compact keep) = Ok (record { state = record s { parts = compacted keep s.parts }; reply = Finished })
-step s (Get key ts) = Ok (record { state = s; reply = Got (get s.history key ts) })
+step s (Get key ts) = answered s (λ a. Got a.found) (get s.history (read_at ts) key)
 step s Stats = Ok (record { state = s; reply = Statistics (statistics s.last s.history) s.last })
 step s Layout = Ok (record { state = s; reply = Parts (layout s.parts) })

@@ -7,3 +7,4 @@ pub mod Change
 pub mod Kept
 pub mod Seen
 pub mod Plan
+pub mod Outside

@@ -22,7 +22,7 @@ pub fn change_of(
     requires key { key_len ≤ 2 ^ 25 }
     requires version { version.value_len ≤ 2 ^ 25 }
     requires newest { IfSome newest (λ v. v.value_len ≤ 2 ^ 25) }
-    ensures { (f : Field) → number f result ≡ change_by_shapes now key_len (shapes.version_of version) (option_map shapes.version_of newest) f }
+    ensures { (f : Field) → number f result ≡ change_by_shapes now key_len (shapes.version_shape_of version) (option_map shapes.version_shape_of newest) f }
 {
     let Some(newest) = newest else {
         return group_of_key(key_len, &[version], now);
@@ -34,9 +34,9 @@ pub fn change_of(
 
 /// What a key with these versions alone adds.
 fn group_of_key(key_len: u64, versions: &[VersionShape], now: u64) -> Group
-    requires { IsInLimits (shape_of_key key_len (map shapes.version_of versions.now)) }
-    ensures sums { (f : Field) → number f result ≡ pos (field f (key_sums now (shape_of_key key_len (map shapes.version_of versions.now)))) }
-    ensures within { (f : Field) → field f (key_sums now (shape_of_key key_len (map shapes.version_of versions.now))) ≤ 2 ^ 121 }
+    requires { IsInLimits (shape_of_key key_len (map shapes.version_shape_of versions.now)) }
+    ensures sums { (f : Field) → number f result ≡ pos (field f (key_sums now (shape_of_key key_len (map shapes.version_shape_of versions.now)))) }
+    ensures within { (f : Field) → field f (key_sums now (shape_of_key key_len (map shapes.version_shape_of versions.now))) ≤ 2 ^ 121 }
 {
     let group = GroupRef {
         key_len,

@@ -6,15 +6,14 @@
 //! delete_at a@5     a@5 a@3=z a@1=x live_count=0, and all is garbage
 //! get_at  a@4       a@3=z
 //! ```
-ghost use Rattle.std.specs.Prelude.{◌≡◌, ◌≤◌, ◌<◌, ◌^◌, Bool, map, IfOk, MatchResult};
+ghost use Rattle.std.specs.Prelude.{◌≡◌, ◌≤◌, ◌<◌, ◌^◌, Bool, [], map, IfOk, MatchResult, Ok};
 ghost use Rattle.std.specs.Option.{option_map};
 ghost use Rattle.mvcc_key.specs.views.Seen.{time_of};
 ghost use Rattle.mvcc_value.specs.views.Seen.{found_of, plain_body, seen_body};
 ghost use Rattle.lsm_store.specs.Parts.{layout};
 ghost use Rattle.lsm_store.specs.views.Seen.{seen_shape};
-ghost use Rattle.mvcc_engine.specs.Read.{get};
-ghost use Rattle.mvcc_engine.specs.Write.{write};
-ghost use Rattle.mvcc_engine.specs.Step.{Put, Delete, Age, Flush, Compact, Reply, Finished, WasThere, change, first_state, statistics, step};
+ghost use Rattle.mvcc_engine.specs.views.Outside.{write};
+ghost use Rattle.mvcc_engine.specs.Step.{Put, Delete, Age, Flush, Compact, Get, Reply, Finished, WasThere, Got, change, first_state, statistics, step};
 ghost use Rattle.mvcc_engine.specs.views.Seen.{Answers, AnswersAge, AnswersUnlessFull, Tells, refusal_of};
 ghost use Rattle.mvcc_engine.specs.views.Plan.{IsPlanned};
 
@@ -24,7 +23,7 @@ use crate::refusal::{AgeFault, Refusal};
 use crate::version::StoredVersion;
 use crate::versions::Versions;
 use lsm_store::PartShape;
-use mvcc_key::{OutOfMemory, Timestamp};
+use mvcc_key::{OutOfMemory, Timestamp, encode_key, record_key};
 use mvcc_value::{Body, Found, PlainValue};
 use stat_core::Stats;
 use std::alloc::Global;
@@ -91,7 +90,7 @@ impl Engine {
 
     /// The newest version of the key that is not newer than the timestamp, where it is no deletion (CockroachDB `MVCCGet`).
     pub fn get_at(&self, key: &[u8], ts: Timestamp) -> Result<Option<Found>, OutOfMemory>
-        ensures { IfOk result (λ found. option_map found_of found ≡ get self.now.history key.now (time_of ts)) }
+        ensures { IfOk result (λ found. step self.now (Get key.now (time_of ts)) ≡ Ok (record { state = self.now; reply = Got (option_map found_of found) })) }
     {
         self.versions.row_at(key, ts)
     }
@@ -142,7 +141,8 @@ impl Engine {
 
     /// Puts a version of the key, and answers whether a value was there.
     fn write(&mut self, key: &[u8], body: Body<'_>, ts: Timestamp) -> Result<bool, Refusal>
-        ensures { (reply : Bool → Reply) → Answers result reply self.old self.new (change self.old (time_of ts) reply (write self.old.history key.now (time_of ts) (seen_body body.entry))) }
+        ensures outside { self.old.history.intents ≡ [] }
+        ensures steps { (reply : Bool → Reply) → Answers result reply self.old self.new (change self.old reply (write self.old.history key.now (time_of ts) (seen_body body.entry))) }
     {
         let planned = self.plan(key, body, ts)?;
         self.versions.put(planned.version)?;
@@ -154,12 +154,13 @@ impl Engine {
     fn plan(&self, key: &[u8], body: Body<'_>, ts: Timestamp) -> Result<Planned, Refusal>
         ensures { MatchResult result
             (λ p. IsPlanned self.now key.now (time_of ts) (seen_body body.entry) p)
-            (λ why. (reply : Bool → Reply) → Tells (refusal_of why) (change self.now (time_of ts) reply (write self.now.history key.now (time_of ts) (seen_body body.entry)))) }
+            (λ why. (reply : Bool → Reply) → Tells (refusal_of why) (change self.now reply (write self.now.history key.now (time_of ts) (seen_body body.entry)))) }
     {
         check(key, body, ts)?;
-        let newest = self.versions.newest_of(key)?;
+        let name = encode_key(self.alloc, key, ts)?;
+        let newest = self.versions.newest_of(key, record_key(name.as_slice()))?;
         past(newest, ts)?;
-        let version = StoredVersion::copy(self.alloc, key, ts, body)?;
+        let version = StoredVersion::new(self.alloc, name, ts, body)?;
         let now = max(self.stats.last_update_nanos(), ts.wall());
         let mut stats = self.stats;
         let change = change_of(key.len() as u64, version.shape(), newest, now);

@@ -7,11 +7,11 @@ ghost use Rattle.mvcc_key.specs.views.Seen.{time_of};
 ghost use Rattle.mvcc_value.specs.views.Seen.{seen_body};
 ghost use Rattle.mvcc_engine.specs.views.Places.{in_the_way};
 ghost use Rattle.mvcc_engine.specs.views.Seen.{Tells, refusal_of};
-ghost use Rattle.mvcc_engine.specs.Write.{checked, data_length};
+ghost use Rattle.mvcc_engine.specs.views.Outside.{checked, data_length};
 
 use crate::refusal::Refusal;
 use crate::version::StoredVersion;
-use mvcc_key::Timestamp;
+use mvcc_key::{MAX_BYTES_LEN, MAX_KEY_LEN, Timestamp};
 use mvcc_value::Body;
 use stat_core::{Stats, VersionShape};
 use std::cmp::Ordering;
@@ -26,12 +26,6 @@ pub struct Planned {
     /// Whether a value was there before.
     pub was_there: bool,
 }
-
-/// The most bytes of a key.
-const MAX_KEY_LEN: usize = 4_096;
-
-/// The most bytes of data of a value.
-const MAX_DATA_LEN: usize = 1_048_576;
 
 /// Whether key, value and timestamp are what they must be.
 pub fn check(key: &[u8], body: Body<'_>, ts: Timestamp) -> Result<(), Refusal>
@@ -48,7 +42,7 @@ pub fn check(key: &[u8], body: Body<'_>, ts: Timestamp) -> Result<(), Refusal>
         Err(Refusal::EmptyKey)
     } else if key.len() > MAX_KEY_LEN {
         Err(Refusal::KeyTooLong(key.len() as u64))
-    } else if data > MAX_DATA_LEN {
+    } else if data > MAX_BYTES_LEN {
         Err(Refusal::ValueTooLong(data as u64))
     } else if ts == Timestamp::NONE {
         Err(Refusal::BadTimestamp)

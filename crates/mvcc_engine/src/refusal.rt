@@ -4,7 +4,7 @@ ghost use Rattle.std.specs.Prelude.{◌≡◌};
 use mvcc_key::{OutOfMemory, Timestamp};
 use stat_core::{CountOverflow, Field};
 
-/// Why a write is refused. A refused write leaves everything as it was.
+/// Why a call is refused. A refused call leaves everything as it was.
 #[derive(Clone, Copy, Debug, PartialEq, Eq)]
 pub enum Refusal {
     /// Memory was wanting.
@@ -19,6 +19,8 @@ pub enum Refusal {
     BadTimestamp,
     /// The key's newest version is not older than the write (CockroachDB `WriteTooOldError`): its timestamp.
     TooOld(Timestamp),
+    /// The moment is before the latest one, which is this, in nanoseconds of wall time.
+    MomentTooEarly(u64),
     /// This statistic would pass the bound, and those before it would not.
     CountOverflow(Field),
 }
@@ -62,5 +64,19 @@ impl From<CountOverflow> for AgeFault {
 
     fn from(overflow: CountOverflow) -> Self {
         AgeFault::CountOverflow(overflow.field)
+    }
+}
+
+impl From<AgeFault> for Refusal {
+    ghost use Rattle.std.specs.Prelude.{◌≡◌};
+    ghost use Rattle.mvcc_engine.specs.views.Seen.{as_refusal};
+
+    ghost from_gives = { λ fault e. e ≡ as_refusal fault };
+
+    fn from(fault: AgeFault) -> Self {
+        match fault {
+            AgeFault::MomentTooEarly(latest) => Refusal::MomentTooEarly(latest),
+            AgeFault::CountOverflow(field) => Refusal::CountOverflow(field),
+        }
     }
 }

@@ -1,22 +1,23 @@
 //! A committed version as it is stored.
-ghost use Rattle.std.specs.Prelude.{◌≡◌, ◌∷◌, [], Some, IfOk};
+ghost use Rattle.std.specs.Prelude.{◌≡◌, ◌∷◌, [], true, Ok, Some, IfOk, is_ok};
 ghost use Rattle.std.specs.Option.{option_map};
+ghost use Rattle.mvcc_key.specs.Batches.{IsBatch, HasPointsAlone};
+ghost use Rattle.mvcc_key.specs.Encoded.{IsName, name_in};
 ghost use Rattle.mvcc_key.specs.Order.{Key, Name};
 ghost use Rattle.mvcc_key.specs.views.Seen.{time_of};
 ghost use Rattle.mvcc_key.specs.views.SeenPoint.{points_of};
-ghost use Rattle.mvcc_value.specs.Encoding.{IsEncodable};
+ghost use Rattle.mvcc_value.specs.Encoding.{value_of};
 ghost use Rattle.mvcc_value.specs.views.Seen.{found_of, seen_body};
-ghost use Rattle.mem_table.specs.Entries.{IsBatch};
-ghost use Rattle.stat_core.specs.DeadSince.{is_deletion_value, shape_of};
+ghost use Rattle.stat_core.specs.DeadSince.{shape_of};
 ghost use Rattle.stat_core.specs.views.Seen as shapes;
 ghost use Rattle.mvcc_engine.specs.views.Change.{shape};
-ghost use Rattle.mvcc_engine.specs.Read.{row_of};
+ghost use Rattle.mvcc_engine.specs.views.Outside.{row_of};
 ghost use Rattle.mvcc_engine.specs.views.Spelled.{spelled_body};
-ghost use Rattle.mvcc_engine.specs.views.Stored.{point_of, version_of, IsShort};
-ghost use Rattle.mvcc_engine.specs.Write.{new_version};
+ghost use Rattle.mvcc_engine.specs.views.Stored.{stored_point, stored_version, IsShort};
+ghost use Rattle.mvcc_engine.specs.views.Outside.{new_version};
 
-use mvcc_key::{Batch, Bytes, Elements, Key, OutOfMemory, PointOp, Timestamp, encode_key};
-use mvcc_value::{Body, Found, OwnedValue, decode, encode};
+use mvcc_key::{Batch, Bytes, Elements, Key, OutOfMemory, PointOp, Timestamp};
+use mvcc_value::{Body, Found, OwnedValue, encode, is_deletion_value, read};
 use stat_core::VersionShape;
 use std::alloc::Global;
 use std::marker::Model;
@@ -35,29 +36,30 @@ impl Model for StoredVersion {
     ghost use Rattle.mvcc_key.specs.Encoded.{name_in};
     ghost use Rattle.mvcc_key.specs.views.Seen.{time_of};
     ghost use Rattle.mvcc_key.specs.History.{Version};
-    ghost use Rattle.mvcc_engine.specs.views.Stored.{version_of};
+    ghost use Rattle.mvcc_engine.specs.views.Stored.{stored_version};
     ghost use Rattle.mvcc_engine.specs.views.Spelled.{IsSpelledAt};
 
     ghost Value = { Version };
 
-    ghost view = { λ v. version_of (record { name = name_in v.key; value = Some v.value }) };
+    ghost view = { λ v. stored_version (record { name = name_in v.key; value = Some v.value }) };
 
     ghost invariant = { λ v. IsSpelledAt v.key (time_of v.ts) v.value };
 }
 
 impl StoredVersion {
-    /// A version with bytes of its own.
-    pub fn copy(
+    /// The version of an encoded key, which is taken as it is, with this value.
+    pub fn new(
         alloc: Global,
-        key: &[u8],
+        name: Vec<u8>,
         ts: Timestamp,
         body: Body<'_>,
     ) -> Result<StoredVersion, OutOfMemory>
-        ensures { IfOk result (λ v. v ≡ new_version key.now (time_of ts) (seen_body body.entry)) }
+        requires named { IsName name.items }
+        requires at { (name_in name.items).ts ≡ time_of ts }
+        ensures { IfOk result (λ v. v ≡ new_version (name_in name.items).key (time_of ts) (seen_body body.entry)) }
     {
-        is_encodable(body);
         Ok(StoredVersion {
-            key: Bytes::from_vec(encode_key(alloc, key, ts)?),
+            key: Bytes::from_vec(name),
             ts,
             value: Bytes::from_vec(encode(alloc, body, Timestamp::NONE, ts)?),
         })
@@ -65,7 +67,7 @@ impl StoredVersion {
 
     /// What the statistics see of it.
     pub fn shape(&self) -> VersionShape
-        ensures { shapes.version_of result ≡ shape self.now }
+        ensures { shapes.version_shape_of result ≡ shape self.now }
     {
         shape_of_bytes(self.ts, self.value.as_slice())
     }
@@ -73,9 +75,10 @@ impl StoredVersion {
     /// The batch that sets it.
     pub fn into_batch(self, alloc: Global) -> Result<Batch, OutOfMemory>
         requires { IsShort self }
-        ensures points { IfOk result (λ b. points_of b.points ≡ point_of self ∷ []) }
+        ensures points { IfOk result (λ b. points_of b.points ≡ stored_point self ∷ []) }
         ensures batch { IfOk result IsBatch }
-        ensures version { version_of (point_of self) ≡ self }
+        ensures alone { IfOk result HasPointsAlone }
+        ensures version { stored_version (stored_point self) ≡ self }
     {
         let mut points = Elements::new(alloc);
         points.push(PointOp {
@@ -89,17 +92,18 @@ impl StoredVersion {
     }
 }
 
-/// A version that is lent: its timestamp, and its value in bytes.
+/// A version that is lent: its timestamp, and its value in bytes, which are whole.
 #[derive(Clone, Copy, Debug)]
 pub struct VersionRef<'a> {
     pub ts: Timestamp,
     pub value: &'a [u8],
+    ghost whole: { is_ok (value_of (time_of ts) value.now) ≡ true },
 }
 
 impl VersionRef<'_> {
     /// What the statistics see of it.
     pub fn shape(self) -> VersionShape
-        ensures { (key : Key) → shapes.version_of result ≡ shape_of (record { name = record { key = key; ts = time_of self.entry.ts }; value = self.entry.value.now }) }
+        ensures { (key : Key) → shapes.version_shape_of result ≡ shape_of (record { name = record { key = key; ts = time_of self.entry.ts }; value = self.entry.value.now }) }
     {
         shape_of_bytes(self.ts, self.value)
     }
@@ -108,7 +112,7 @@ impl VersionRef<'_> {
     pub fn row(self, alloc: Global, key: &[u8]) -> Result<Option<Found>, OutOfMemory>
         ensures { IfOk result (λ found. option_map found_of found ≡ row_of key.now (spelled_body (time_of self.entry.ts) self.entry.value.now) (time_of self.entry.ts)) }
     {
-        let value = match body_in(self.ts, self.value) {
+        let value = match read(self.value, self.ts).body {
             Body::Deletion => return Ok(None),
             Body::Bytes(bytes) => OwnedValue::Bytes(Key::copy(alloc, bytes)?),
             Body::Int(number) => OwnedValue::Int(number),
@@ -121,39 +125,13 @@ impl VersionRef<'_> {
     }
 }
 
-/// The value that bytes spell; stored bytes always spell one.
-fn body_in(ts: Timestamp, bytes: &[u8]) -> Body<'_>
-    ensures { seen_body result ≡ spelled_body (time_of ts) bytes.now }
-{
-    match decode(bytes, ts) {
-        Ok(value) => value.body,
-        Err(_) => Body::Deletion,
-    }
-}
-
 /// What the statistics see of a version with these bytes.
 fn shape_of_bytes(ts: Timestamp, bytes: &[u8]) -> VersionShape
-    ensures { (key : Key) → shapes.version_of result ≡ shape_of (record { name = record { key = key; ts = time_of ts }; value = bytes.now }) }
+    ensures { (key : Key) → shapes.version_shape_of result ≡ shape_of (record { name = record { key = key; ts = time_of ts }; value = bytes.now }) }
 {
     VersionShape {
         ts,
         value_len: bytes.len() as u64,
         deletion: is_deletion_value(bytes),
-    }
-}
-
-/// Whether bytes are the value of a deletion: nothing, or a header alone.
-fn is_deletion_value(bytes: &[u8]) -> bool
-    ensures { result ≡ is_deletion_value bytes.now }
-{
-    bytes.is_empty() || (bytes.len() == 17 && bytes[4] == 0x7f)
-}
-
-/// Each value has bytes: a number has 64 signed bits.
-fn is_encodable(body: Body<'_>)
-    ensures { IsEncodable (seen_body body.entry) }
-{
-    match body {
-        Body::Deletion | Body::Bytes(_) | Body::Int(_) => {}
     }
 }

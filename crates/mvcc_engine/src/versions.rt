@@ -8,12 +8,13 @@
 //! put k=a ts=3 v=z    a@3=z  a@1=x  b@1=y
 //! get k=a ts=2        a@1=x
 //! ```
-ghost use Rattle.std.specs.Prelude.{◌≡◌, ◌≤◌, ◌<◌, ◌+◌, ◌-◌, map, false, OnOk, OnErr, IfOk, IsOk};
+ghost use Rattle.std.specs.Prelude.{◌≡◌, ◌≤◌, ◌<◌, ◌+◌, ◌-◌, map, false, Ok, OnOk, OnErr, IfOk, IsOk};
+ghost use Rattle.std.specs.List.{AllByRecursion};
 ghost use Rattle.std.specs.Option.{option_map};
 ghost use Rattle.mvcc_key.specs.Lists.{put_in_order};
-ghost use Rattle.mvcc_key.specs.Order.{is_no_time, is_same_key};
+ghost use Rattle.mvcc_key.specs.Order.{no_time, is_no_time, is_same_key};
 ghost use Rattle.mvcc_key.specs.KeyFormat.{name_of};
-ghost use Rattle.mvcc_key.specs.Encoded.{name_in};
+ghost use Rattle.mvcc_key.specs.Encoded.{name_in, IsName};
 ghost use Rattle.mvcc_key.specs.Points.{point_at, count_below};
 ghost use Rattle.mvcc_key.specs.History.{version_cmp};
 ghost use Rattle.mvcc_key.specs.views.Seen.{time_of};
@@ -25,18 +26,17 @@ ghost use Rattle.stat_core.specs.views.Seen as shapes;
 ghost use Rattle.mvcc_engine.specs.views.Change.{shape};
 ghost use Rattle.mvcc_engine.specs.views.Lent.{lent_point};
 ghost use Rattle.mvcc_engine.specs.views.Places.{AreVersions, newest_version, history_of};
-ghost use Rattle.mvcc_engine.specs.Read.{get};
+ghost use Rattle.mvcc_engine.specs.views.Outside.{get};
 ghost use Rattle.mvcc_engine.specs.Step.{parts_between};
-ghost use Rattle.mvcc_engine.specs.views.Stored.{IsShort, nothing_held, of_key};
+ghost use Rattle.mvcc_engine.specs.views.Stored.{IsShort, IsVersion, nothing_held, of_key};
 
 use crate::version::{StoredVersion, VersionRef};
 use lsm_store::{PartShape, Store, StoreCursor};
-use mvcc_key::{Cursor, Looks, OutOfMemory, Timestamp, decode_key, encode_key};
+use mvcc_key::{Cursor, OutOfMemory, Timestamp, encode_key, read_key, seek_ge};
 use mvcc_value::Found;
 use stat_core::VersionShape;
 use std::alloc::Global;
-use std::marker::{Brand, Model};
-use std::sync::ledger::{Blank, Ledger};
+use std::marker::Model;
 
 /// All versions in the order of stored pairs. Contracts see that list, and what each part of the store names.
 #[derive(Drop)]
@@ -68,13 +68,14 @@ impl Versions {
         }
     }
 
-    /// What the statistics see of the newest version of the key, by one seek.
-    pub fn newest_of(&self, key: &[u8]) -> Result<Option<VersionShape>, OutOfMemory>
-        ensures newest { IfOk result (λ newest. option_map shapes.version_of newest ≡ option_map shape (newest_version key.now self.now.versions)) }
+    /// What the statistics see of the newest version of the key, by one seek to the encoded key of its record.
+    pub fn newest_of(&self, key: &[u8], sought: &[u8]) -> Result<Option<VersionShape>, OutOfMemory>
+        requires named { IsName sought.now }
+        requires record_of { name_of sought.now ≡ Ok (record { key = key.now; ts = no_time }) }
+        ensures newest { IfOk result (λ newest. option_map shapes.version_shape_of newest ≡ option_map shape (newest_version key.now self.now.versions)) }
         ensures versions { AreVersions self.now.versions }
     {
-        let sought = encode_key(self.alloc, key, Timestamp::NONE)?;
-        let cursor = cursor_at(&self.store, sought.as_slice())?;
+        let cursor = cursor_at(&self.store, sought)?;
         match version_here(&cursor, key) {
             Some(version) => Ok(Some(version.shape())),
             None => Ok(None),
@@ -138,43 +139,27 @@ impl Versions {
 
 /// A cursor at the first pair that is not below the encoded key.
 fn cursor_at<'a>(store: &'a Store, sought: &[u8]) -> Result<StoreCursor<'a>, OutOfMemory>
-    requires { IsOk (name_of sought.now) }
+    requires { IsName sought.now }
     ensures points { IfOk result (λ c. ⟦<StoreCursor<'a> as Cursor>⟧.points c ≡ shown store.now) }
     ensures place { IfOk result (λ c. ⟦<StoreCursor<'a> as Cursor>⟧.place c ≡ count_below (name_in sought.now) (shown store.now) + 1) }
 {
     let mut cursor = store.cursor()?;
-    seek::<StoreCursor<'a>, Brand>(&mut cursor, sought, Blank::new(1));
+    seek_ge(&mut cursor, sought);
     Ok(cursor)
-}
-
-/// Seeks, and counts the looks for nobody.
-fn seek<C: Cursor, L: Ledger>(cursor: &mut C, sought: &[u8], blank: Blank)
-    requires sought { IsOk (name_of sought.now) }
-    requires name { blank.name ≡ L.name }
-    requires parts { blank.parts ≡ L.parts }
-    requires some { 0 < blank.parts }
-    ensures points { C.points cursor.new ≡ C.points cursor.old }
-    ensures place { C.place cursor.new ≡ count_below (name_in sought.now) (C.points cursor.old) + 1 }
-{
-    let mut looks = Looks::<L>::new(blank);
-    cursor.seek_ge(sought, &mut looks);
 }
 
 /// The version at which the cursor stands, where it is one of the key.
 fn version_here<'a, C: Cursor>(cursor: &'a C, key: &[u8]) -> Option<VersionRef<'a>>
+    requires { AllByRecursion IsVersion (C.points cursor.now) }
     ensures { option_map (lent_point key.now) result ≡ of_key key.now (point_at (C.points cursor.now) (C.place cursor.now)) }
 {
     let encoded = cursor.key()?;
     let value = cursor.value()?;
-    match decode_key(encoded) {
-        Ok(name) => {
-            if is_same(name.key, key) {
-                Some(VersionRef { ts: name.ts, value })
-            } else {
-                None
-            }
-        }
-        Err(_) => None,
+    let name = read_key(encoded);
+    if is_same(name.key, key) {
+        Some(VersionRef { ts: name.ts, value })
+    } else {
+        None
     }
 }
 

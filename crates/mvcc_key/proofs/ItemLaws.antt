@@ -84,7 +84,7 @@ module _ (P : Timestamp → Type 0) where
   items-stack h key a = times_over-whole h.tombstones key (items-parts h key a).tombstones
 
 -- where the first of items in order is below a timestamp, all are
-below_first : (ts : Timestamp) (is : List Item) → IsStrictlySortedBy item_cmp is → IfSome (first is) (λ i. is_before i.ts ts ≡ true) → AllByRecursion (λ (i : Item). is_before i.ts ts ≡ true) is
+pub below_first : (ts : Timestamp) (is : List Item) → IsStrictlySortedBy item_cmp is → IfSome (first is) (λ i. is_before i.ts ts ≡ true) → AllByRecursion (λ (i : Item). is_before i.ts ts ≡ true) is
 unfolding IsStrictlySortedBy
 below_first ts [] sorted h = tt
 below_first ts (i ∷ is) sorted h = (h, behind is sorted.0)

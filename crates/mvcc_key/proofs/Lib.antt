@@ -23,7 +23,7 @@ pub mod ApartLaws
 pub mod NamedLaws
 pub mod ClockLaws
 pub mod PointLaws
-pub mod HeadLaws
+pub mod AbbreviatedKeyLaws
 pub mod SeenPointLaws
 pub mod EachLaws
 pub mod FilterLaws
@@ -33,3 +33,5 @@ pub mod SameKeyLaws
 pub mod SameElementsLaws
 pub mod ByKeyLaws
 pub mod ItemLaws
+pub mod BatchLaws
+pub mod FindLaws

@@ -28,13 +28,6 @@ bits-le m n le =
     let under : m < 2 ^ length (digits_of 2 n) = omega arith in
     length-digits_of-le 2 (length (digits_of 2 n)) m two under
 
--- a number that is not 0 has a digit
-pub bits-some : (n : ℕ) → 0 < n → 1 ≤ bits n
-unfolding bits
-bits-some n some =
-    let two : 2 ≤ 2 = omega arith in
-    rw (length-digits_of_step 2 n two some) (omega arith)
-
 -- what is left of a range after a halving has one digit less
 pub bits-half : (size rest : ℕ) → 0 < size → rest ≤ size / 2 → bits rest + 1 ≤ bits size
 unfolding bits

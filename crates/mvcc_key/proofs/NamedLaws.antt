@@ -1,14 +1,16 @@
 -- What is known of bytes that encode a name, by their last byte, and the order of names by parts of their bytes.
-use Rattle.std.proofs.Common.{◌≡◌, ◌≢◌, ℕ, ◌+◌, ◌-◌, ◌^◌, ◌<◌, ◌≤◌, Bool, true, false, cond, eqb, ltb, List, length, take, Result, Ok, Err, refl, sym, ap, ◌∙◌, arith}
+use Rattle.std.proofs.Common.{◌≡◌, ◌≢◌, ℕ, ◌+◌, ◌-◌, ◌^◌, ◌<◌, ◌≤◌, Bool, true, false, cond, eqb, ltb, List, [], ◌∷◌, length, take, Result, Ok, Err, refl, sym, ap, ◌∙◌, subst, arith}
 use Rattle.std.specs.Prelude.{IsOk}
 use Rattle.std.specs.declared.cmp.Ordering.{Ordering}
 use Rattle.std.specs.Ordering.{nat_cmp, ordering_then}
 use Rattle.std.specs.Int.{w32, w64, from_be_bytes}
 use Rattle.std.proofs.lemmas.Bool.{ltb-false, and_left, and_right, and_parts, eqb-true}
+use Rattle.std.proofs.Math.Seq.{take-append-add}
+use Rattle.std.proofs.lemmas.List.{length-take}
 use Rattle.mvcc_key.specs.Order.{Timestamp, no_time, is_no_time, is_in_range, record_first, newer_first, key_cmp, Key, Name, name_cmp}
-use Rattle.mvcc_key.specs.KeyFormat.{encoded_name, KeyFault, ZeroTime, ZeroLogical, name_of, without_last, last_bytes, byte_before, with_wall, with_counter}
+use Rattle.mvcc_key.specs.KeyFormat.{encoded_name, encoded_time, KeyFault, ZeroTime, ZeroLogical, name_of, without_last, last_bytes, byte_before, with_wall, with_counter}
 use Rattle.mvcc_key.specs.Encoded.{IsBytes, IsName, name_in, known_name, rank_of, ReadingWasEncoded, RefusedIsNoEncoding}
-use Rattle.mvcc_key.proofs.KeyFormatLaws.{Passed, tested_ok, Way, Bare, Wall, Counter, by_last_ok, some_length, in_range, IsEncoded-name_of, name_of-encoded_name}
+use Rattle.mvcc_key.proofs.KeyFormatLaws.{Passed, tested-ok, Way, Bare, Wall, Counter, by_last-ok, some-length, in_range, IsEncoded-name_of, name_of-encoded_name}
 use Rattle.mvcc_key.proofs.KeyOrderLaws.{nat_cmp_less, nat_cmp_greater}
 
 -- the timestamp before a last byte 09, and before a last byte 0d
@@ -31,27 +33,27 @@ pub data Reading (bytes : List ℕ) (n : Name) : Type 0 where
 pub reading : (bytes : List ℕ) (n : Name) → name_of bytes ≡ Ok n → Reading bytes n
 unfolding name_of
 reading bytes n e =
-    by (by_last_ok (eqb (length bytes) 0) (byte_before 0 bytes) (record { key = without_last 1 bytes; ts = no_time }) (with_wall bytes) (with_counter bytes) n e)
+    by (by_last-ok (eqb (length bytes) 0) (byte_before 0 bytes) (record { key = without_last 1 bytes; ts = no_time }) (with_wall bytes) (with_counter bytes) n e)
   where
     by : Way (eqb (length bytes) 0) (byte_before 0 bytes) (record { key = without_last 1 bytes; ts = no_time }) (with_wall bytes) (with_counter bytes) n → Reading bytes n
-    by (Bare some end is) = OfRecord end (some_length bytes some) (sym is)
+    by (Bare some end is) = OfRecord end (some-length bytes some) (sym is)
     by (Wall some end is) =
         let p : Passed (ltb (length bytes) 10) (eqb (byte_before 9 bytes) 0) (wall_at bytes) (eqb (wall_at bytes).wall 0) (without_last 10 bytes) n =
-        tested_ok (ltb (length bytes) 10) (eqb (byte_before 9 bytes) 0) (wall_at bytes) (eqb (wall_at bytes).wall 0) ZeroTime (without_last 10 bytes) n is in
+        tested-ok (ltb (length bytes) 10) (eqb (byte_before 9 bytes) 0) (wall_at bytes) (eqb (wall_at bytes).wall 0) ZeroTime (without_last 10 bytes) n is in
         OfWall end (ltb-false _ _ p.long) p.range (and_left _ _ p.something) (sym p.name)
     by (Counter some end is) =
         let p : Passed (ltb (length bytes) 14) (eqb (byte_before 13 bytes) 0) (counter_at bytes) (eqb (counter_at bytes).logical 0) (without_last 14 bytes) n =
-        tested_ok (ltb (length bytes) 14) (eqb (byte_before 13 bytes) 0) (counter_at bytes) (eqb (counter_at bytes).logical 0) ZeroLogical (without_last 14 bytes) n is in
+        tested-ok (ltb (length bytes) 14) (eqb (byte_before 13 bytes) 0) (counter_at bytes) (eqb (counter_at bytes).logical 0) ZeroLogical (without_last 14 bytes) n is in
         OfCounter end (ltb-false _ _ p.long) p.range (and_right _ _ p.something) (sym p.name)
 
 -- what was read
-pub read_is : (r : Result Name KeyFault) → IsOk r → r ≡ Ok (known_name r)
-read_is (Ok n) h = refl
-read_is (Err fault) h = absurd cc
+pub read-is : (r : Result Name KeyFault) → IsOk r → r ≡ Ok (known_name r)
+read-is (Ok n) h = refl
+read-is (Err fault) h = absurd cc
 
 -- bytes that encode a name, by their last byte
-pub reading_in : (bytes : List ℕ) → IsOk (name_of bytes) → Reading bytes (name_in bytes)
-reading_in bytes h = reading bytes (name_in bytes) (read_is (name_of bytes) h)
+pub IsName-reading : (bytes : List ℕ) → IsName bytes → Reading bytes (name_in bytes)
+IsName-reading bytes h = reading bytes (name_in bytes) (read-is (name_of bytes) h.read)
 
 -- where the key lies
 pub record HasKey (bytes : List ℕ) : Type 0 where
@@ -59,8 +61,8 @@ pub record HasKey (bytes : List ℕ) : Type 0 where
   pub key : without_last (byte_before 0 bytes + 1) bytes ≡ (name_in bytes).key
 
 -- the last byte tells how many bytes stand behind the key and its sentinel
-pub has_key : (bytes : List ℕ) → IsOk (name_of bytes) → HasKey bytes
-has_key bytes h = by (reading_in bytes h)
+pub IsName-HasKey : (bytes : List ℕ) → IsName bytes → HasKey bytes
+IsName-HasKey bytes h = by (IsName-reading bytes h)
   where
     by : Reading bytes (name_in bytes) → HasKey bytes
     by (OfRecord end long is) = record { within = omega arith; key = ap (λ (b : ℕ). without_last (b + 1) bytes) end ∙ sym (ap (λ (n : Name). n.key) is) }
@@ -80,8 +82,8 @@ rank_none : (bytes : List ℕ) (key : Key) → name_in bytes ≡ record { key = 
 rank_none bytes key is = record { by_wall = rw is refl; by_logical = sym (ap (λ (n : Name). n.ts.logical) is) }
 
 -- the rank of bytes that end with 09
-pub rank_wall : (bytes : List ℕ) → IsOk (name_of bytes) → byte_before 0 bytes ≡ 9 → (10 ≤ length bytes) × AreRank (wall_at bytes).wall 0 bytes
-rank_wall bytes h e = by (reading_in bytes h)
+pub rank-wall : (bytes : List ℕ) → IsName bytes → byte_before 0 bytes ≡ 9 → (10 ≤ length bytes) × AreRank (wall_at bytes).wall 0 bytes
+rank-wall bytes h e = by (IsName-reading bytes h)
   where
     by : Reading bytes (name_in bytes) → (10 ≤ length bytes) × AreRank (wall_at bytes).wall 0 bytes
     by (OfRecord end long is) = absurd (omega arith)
@@ -89,8 +91,8 @@ rank_wall bytes h e = by (reading_in bytes h)
     by (OfCounter end long range some is) = absurd (omega arith)
 
 -- the rank of bytes that end with 0d
-pub rank_counter : (bytes : List ℕ) → IsOk (name_of bytes) → byte_before 0 bytes ≡ 13 → (14 ≤ length bytes) × AreRank (counter_at bytes).wall (counter_at bytes).logical bytes
-rank_counter bytes h e = by (reading_in bytes h)
+pub rank-counter : (bytes : List ℕ) → IsName bytes → byte_before 0 bytes ≡ 13 → (14 ≤ length bytes) × AreRank (counter_at bytes).wall (counter_at bytes).logical bytes
+rank-counter bytes h e = by (IsName-reading bytes h)
   where
     by : Reading bytes (name_in bytes) → (14 ≤ length bytes) × AreRank (counter_at bytes).wall (counter_at bytes).logical bytes
     by (OfRecord end long is) = absurd (omega arith)
@@ -98,8 +100,8 @@ rank_counter bytes h e = by (reading_in bytes h)
     by (OfCounter end long range some is) = (long, rank_time bytes _ _ some is)
 
 -- the rank of other bytes
-pub rank_record : (bytes : List ℕ) → IsOk (name_of bytes) → byte_before 0 bytes ≢ 9 → byte_before 0 bytes ≢ 13 → AreRank (2 ^ 64 - 1) 0 bytes
-rank_record bytes h not_wall not_counter = by (reading_in bytes h)
+pub rank-record : (bytes : List ℕ) → IsName bytes → byte_before 0 bytes ≢ 9 → byte_before 0 bytes ≢ 13 → AreRank (2 ^ 64 - 1) 0 bytes
+rank-record bytes h not_wall not_counter = by (IsName-reading bytes h)
   where
     by : Reading bytes (name_in bytes) → AreRank (2 ^ 64 - 1) 0 bytes
     by (OfRecord end long is) = rank_none bytes _ is
@@ -107,8 +109,8 @@ rank_record bytes h not_wall not_counter = by (reading_in bytes h)
     by (OfCounter end long range some is) = absurd (not_counter end)
 
 -- a name that was read has a timestamp in range
-pub named_range : (bytes : List ℕ) → IsOk (name_of bytes) → is_in_range (name_in bytes).ts ≡ true
-named_range bytes h = by (reading_in bytes h)
+pub named-range : (bytes : List ℕ) → IsName bytes → is_in_range (name_in bytes).ts ≡ true
+named-range bytes h = by (IsName-reading bytes h)
   where
     by : Reading bytes (name_in bytes) → is_in_range (name_in bytes).ts ≡ true
     by (OfRecord end long is) = ap (λ (n : Name). is_in_range n.ts) is
@@ -140,11 +142,11 @@ rank_cmp-order s t s_low t_low = by (is_no_time s) (is_no_time t) refl refl
         rw (sw, sl, tw, tl) refl
 
 -- names by their keys, and then by their ranks
-pub name_cmp-ranks : (a b : List ℕ) → IsOk (name_of a) → IsOk (name_of b)
+pub name_cmp-ranks : (a b : List ℕ) → IsName a → IsName b
     → name_cmp (name_in a) (name_in b) ≡ ordering_then (key_cmp (name_in a).key (name_in b).key) (rank_cmp (name_in a).ts (name_in b).ts)
 name_cmp-ranks a b h k =
     ap (ordering_then (key_cmp (name_in a).key (name_in b).key))
-    (sym (rank_cmp-order (name_in a).ts (name_in b).ts (in_range _ (named_range a h)).0 (in_range _ (named_range b k)).0))
+    (sym (rank_cmp-order (name_in a).ts (name_in b).ts (in_range _ (named-range a h)).0 (in_range _ (named-range b k)).0))
 
 -- ---- what is read and what is refused
 
@@ -160,10 +162,38 @@ refused-encoded bytes fault n refused range is =
 
 -- bytes that are read as a name are its encoding
 pub named-read : (bytes : List ℕ) → IsBytes bytes → IsOk (name_of bytes) → IsName bytes
-named-read bytes fits h = record { read = h; spelled = sym (IsEncoded-name_of bytes (name_in bytes) fits (read_is (name_of bytes) h)).bytes_are }
+named-read bytes fits h = record { read = h; spelled = sym (IsEncoded-name_of bytes (name_in bytes) fits (read-is (name_of bytes) h)).bytes_are }
 
 -- the encoding of a name in range is read as it
 pub named-encoded : (n : Name) → is_in_range n.ts ≡ true → IsName (encoded_name n)
 named-encoded n range =
     let read = name_of-encoded_name n range in
     record { read = rw read refl; spelled = ap (λ (r : Result Name KeyFault). encoded_name (known_name r)) read }
+
+-- ---- the record of a key
+
+-- the bytes behind a key and its sentinel
+abbrev tail_of : Name → List ℕ
+tail_of n = cond (is_no_time n.ts) [] (encoded_time n.ts)
+
+-- the front of an encoded key, up to and with its sentinel, is the encoding of the record
+record-bytes : (bytes : List ℕ) → IsName bytes → take (length (name_in bytes).key + 1) bytes ≡ encoded_name (record { key = (name_in bytes).key; ts = no_time })
+unfolding encoded_name
+record-bytes bytes h =
+    let n : Name = name_in bytes in
+    ap (λ (b : List ℕ). take (length n.key + 1) b) (sym h.spelled) ∙ take-append-add n.key (0 ∷ tail_of n) 1
+
+-- so it is read as the record
+pub record-front : (bytes : List ℕ) → IsName bytes → name_of (take (length (name_in bytes).key + 1) bytes) ≡ Ok (record { key = (name_in bytes).key; ts = no_time })
+record-front bytes h = ap name_of (record-bytes bytes h) ∙ name_of-encoded_name (record { key = (name_in bytes).key; ts = no_time }) refl
+
+-- and is a name
+pub record-named : (bytes : List ℕ) → IsName bytes → IsName (take (length (name_in bytes).key + 1) bytes)
+record-named bytes h = subst IsName (sym (record-bytes bytes h)) (named-encoded (record { key = (name_in bytes).key; ts = no_time }) refl)
+
+-- it is within the bytes
+pub record-within : (bytes : List ℕ) → IsName bytes → length (name_in bytes).key + 1 ≤ length bytes
+record-within bytes h =
+    let k = IsName-HasKey bytes h in
+    let e : length (without_last (byte_before 0 bytes + 1) bytes) ≡ length (name_in bytes).key = ap (λ (xs : List ℕ). length xs) k.key in
+    omega (arith, k.within, e, length-take (length bytes - (byte_before 0 bytes + 1)) bytes)

@@ -1,6 +1,6 @@
 -- Points in the order of their names: how many are below a name, and what stands at a place.
-use Rattle.std.proofs.Common.{◌≡◌, ℕ, zero, suc, ◌+◌, ◌-◌, ◌<◌, ◌≤◌, Bool, true, false, cond, List, [], ◌∷◌, ◌++◌, length, map, refl, sym, ap, subst, ◌∙◌, arith, inl, inr}
-use Rattle.std.specs.Prelude.{slice_get, Some, None, Ok, IsOk, is_some, find, not}
+use Rattle.std.proofs.Common.{◌≡◌, ℕ, zero, suc, ◌+◌, ◌-◌, ◌<◌, ◌≤◌, Bool, true, false, cond, List, [], ◌∷◌, ◌++◌, length, refl, sym, ap, subst, ◌∙◌, arith, inl, inr}
+use Rattle.std.specs.Prelude.{slice_get, Some, None, Result, Ok, find, not}
 use Rattle.std.specs.declared.option.Option.{Option}
 use Rattle.std.specs.Option.{option_map}
 use Rattle.std.specs.declared.cmp.Ordering.{Ordering}
@@ -8,14 +8,14 @@ use Rattle.std.specs.declared.cmp.Ordering.TheVariants.{Less, Equal, Greater}
 use Rattle.std.specs.Ordering.{is_lt}
 use Rattle.std.specs.List.{AllByRecursion}
 use Rattle.std.specs.List.Sorted.{IsStrictlySortedBy}
-use Rattle.std.proofs.lemmas.Option.{slice_get-map, slice_get_within, slice_get_cases}
+use Rattle.std.proofs.lemmas.Option.{slice_get_within, slice_get_cases}
 use Rattle.std.proofs.lemmas.List.{length-append}
 use Rattle.std.proofs.lemmas.List.Sums.{sum_by-cons}
 use Rattle.std.proofs.lemmas.Bool.{ne_eqb, cases_order}
 use Rattle.mvcc_key.specs.Order.{Name, name_cmp}
-use Rattle.mvcc_key.specs.KeyFormat.{encoded_name, name_of}
-use Rattle.mvcc_key.specs.Encoded.{name_in}
-use Rattle.mvcc_key.specs.Points.{Point, point_cmp, IsRisingBy, IsRising, AreEncodable, point_at, key_at, is_below_name, count_below}
+use Rattle.mvcc_key.specs.KeyFormat.{encoded_name, KeyFault, name_of}
+use Rattle.mvcc_key.specs.Encoded.{known_name, name_in, IsName}
+use Rattle.mvcc_key.specs.Points.{Point, point_cmp, IsRisingBy, IsRising, AreEncodable, point_at, is_below_name, count_below}
 use Rattle.mvcc_key.specs.Lists.{in_order}
 use Rattle.mvcc_key.proofs.OrderLaws.{name_cmp-total}
 use Rattle.mvcc_key.proofs.SortedLaws.{in_order-sorted}
@@ -76,8 +76,8 @@ pub rising_rest : {X : Type 0} (name : X → Name) (x : X) (xs : List X) → IsR
 rising_rest name x xs h i j a b lt p q = h (suc i) (suc j) a b (omega arith) p q
 
 -- the first is below each other one
-pub rising_first : {X : Type 0} (name : X → Name) (x : X) (xs : List X) → IsRisingBy name (x ∷ xs) → (i : ℕ) (a : X) → slice_get xs i ≡ Some a → name_cmp (name x) (name a) ≡ Less
-rising_first name x xs h i a p = h 0 (suc i) x a (omega arith) refl p
+pub rising-first : {X : Type 0} (name : X → Name) (x : X) (xs : List X) → IsRisingBy name (x ∷ xs) → (i : ℕ) (a : X) → slice_get xs i ≡ Some a → name_cmp (name x) (name a) ≡ Less
+rising-first name x xs h i a p = h 0 (suc i) x a (omega arith) refl p
 
 less_of : (o : Ordering) → is_lt o ≡ true → o ≡ Less
 less_of Less h = refl
@@ -124,7 +124,7 @@ place-count_below name (p ∷ ps) rising = by (is_below_name name p) refl (place
         above zero q le is = absurd (omega arith)
         above (suc i) q le is = rest.above i q (omega arith) is
     by false h rest =
-        let others = λ (i : ℕ) (q : Point) (is : slice_get ps i ≡ Some q). above_too name p q (rising_first (λ (q : Point). q.name) p ps rising i q is) h in
+        let others = λ (i : ℕ) (q : Point) (is : slice_get ps i ≡ Some q). above_too name p q (rising-first (λ (q : Point). q.name) p ps rising i q is) h in
         let none : count_below name (p ∷ ps) ≡ 0 = count_below-no name p ps h ∙ ap (λ (n : ℕ). 0 + n) (none_below name ps others) in
         subst (IsPlace name (p ∷ ps)) (sym none) (record {
           within = omega arith;
@@ -134,7 +134,7 @@ place-count_below name (p ∷ ps) rising = by (is_below_name name p) refl (place
       where
         above : (i : ℕ) (q : Point) → 0 ≤ i → slice_get (p ∷ ps) i ≡ Some q → is_below_name name q ≡ false
         above zero q le is = (let same : p ≡ q = cc in rw (← same) h)
-        above (suc i) q le is = above_too name p q (rising_first (λ (r : Point). r.name) p ps rising i q is) h
+        above (suc i) q le is = above_too name p q (rising-first (λ (r : Point). r.name) p ps rising i q is) h
 
 -- the first of rising points that is not below the name
 pub slice_get-count_below : (name : Name) (points : List Point) → IsRising points → slice_get points (count_below name points) ≡ find (λ p. not (is_below_name name p)) points
@@ -147,15 +147,11 @@ slice_get-count_below name (p ∷ ps) rising = by (is_below_name name p) refl (s
         let more : count_below name (p ∷ ps) ≡ suc (count_below name ps) = count_below-yes name p ps h ∙ omega arith in
         ap (slice_get (p ∷ ps)) more ∙ rest
     by false h rest =
-        let others = λ (i : ℕ) (q : Point) (is : slice_get ps i ≡ Some q). above_too name p q (rising_first (λ (r : Point). r.name) p ps rising i q is) h in
+        let others = λ (i : ℕ) (q : Point) (is : slice_get ps i ≡ Some q). above_too name p q (rising-first (λ (r : Point). r.name) p ps rising i q is) h in
         let none : count_below name (p ∷ ps) ≡ 0 = count_below-no name p ps h ∙ ap (λ (n : ℕ). 0 + n) (none_below name ps others) in
         ap (slice_get (p ∷ ps)) none
 
 -- ---- places
-
--- nothing stands before the first point
-pub point_at-zero : (points : List Point) → point_at points 0 ≡ None
-point_at-zero points = refl
 
 -- what stands one place behind another
 pub point_at-next : (points : List Point) (n : ℕ) → point_at points (n + 1) ≡ slice_get points n
@@ -239,6 +235,7 @@ pub record HasPoint (points : List Point) (i : ℕ) (key : List ℕ) : Type 0 wh
   pub point : Point
   pub here : slice_get points i ≡ Some point
   pub read : name_of key ≡ Ok point.name
+  pub spelled : encoded_name point.name ≡ key
 
 -- an encoded key of the points is read as the name of its point
 pub HasPoint-key : (points : List Point) (i : ℕ) (key : List ℕ) → AreEncodable points
@@ -249,31 +246,15 @@ HasPoint-key points i key encodable is = by (slice_get points i) refl is
     by None at e = absurd cc
     by (Some p) at e =
         let bytes : encoded_name p.name ≡ key = cc in
-        record { point = p; here = at; read = rw (← bytes) (name_of-encoded_name p.name (encodable i p at)) }
+        record { point = p; here = at; read = rw (← bytes) (name_of-encoded_name p.name (encodable i p at)); spelled = bytes }
 
 -- it is a name
-pub named-key : (points : List Point) (i : ℕ) (key : List ℕ) → HasPoint points i key → IsOk (name_of key)
-named-key points i key h = rw h.read refl
+pub named-key : (points : List Point) (i : ℕ) (key : List ℕ) → HasPoint points i key → IsName key
+named-key points i key h = record { read = rw h.read refl; spelled = ap (λ (r : Result Name KeyFault). encoded_name (known_name r)) h.read ∙ h.spelled }
 
 -- and the name's order to others is the point's
 pub below-key : (name : Name) (points : List Point) (i : ℕ) (key : List ℕ) (h : HasPoint points i key) → is_lt (name_cmp (name_in key) name) ≡ is_below_name name h.point
 below-key name points i key h = rw h.read refl
-
--- a key stands at the places from 1 to their number
-pub key_at-some : (points : List Point) (n : ℕ) → is_some (key_at points n) ≡ true → (0 < n) × (n ≤ length points)
-key_at-some points n is = by (point_at points n) refl is
-  where
-    by : (o : Option Point) → point_at points n ≡ o → is_some (option_map (λ p. encoded_name p.name) o) ≡ true → (0 < n) × (n ≤ length points)
-    by None at e = absurd cc
-    by (Some p) at e = point_at-some points n p at
-
--- no key stands at the others
-pub key_at-none : (points : List Point) (n : ℕ) → is_some (key_at points n) ≡ false → 0 < n → length points < n
-key_at-none points n is some = by (point_at points n) refl is
-  where
-    by : (o : Option Point) → point_at points n ≡ o → is_some (option_map (λ p. encoded_name p.name) o) ≡ false → length points < n
-    by None at e = point_at-none points n at some
-    by (Some p) at e = absurd cc
 
 -- ---- lists that rise
 
@@ -315,25 +296,11 @@ rising_push name xs y rising last i j a b lt p q =
           | inr (inr behind) ↦ absurd (omega arith)
         ]
 
--- a list that is seen element by element rises where it does by what is seen
-pub rising_map : {X Y : Type 0} (see : X → Y) (name : Y → Name) (xs : List X) → IsRisingBy (λ x. name (see x)) xs → IsRisingBy name (map see xs)
-rising_map see name xs rising i j a b lt p q =
-    let first = seen i a p in
-    let second = seen j b q in
-    rw (← first.2, ← second.2) (rising i j first.0 second.0 lt first.1 second.1)
-  where
-    seen : (i : ℕ) (a : _) → slice_get (map see xs) i ≡ Some a → (x : _) × (slice_get xs i ≡ Some x) × (see x ≡ a)
-    seen i a is = by (slice_get xs i) refl (sym (slice_get-map see xs i) ∙ is)
-      where
-        by : (o : Option _) → slice_get xs i ≡ o → option_map see o ≡ Some a → (x : _) × (slice_get xs i ≡ Some x) × (see x ≡ a)
-        by None at e = absurd cc
-        by (Some x) at e = (x, at, cc)
-
 -- rising points are sorted by name
 pub sorted-rising : (points : List Point) → IsRising points → IsStrictlySortedBy point_cmp points
 unfolding IsStrictlySortedBy
 sorted-rising [] rising = tt
-sorted-rising (p ∷ ps) rising = (each ps (rising_first (λ (q : Point). q.name) p ps rising), sorted-rising ps (rising_rest (λ (q : Point). q.name) p ps rising))
+sorted-rising (p ∷ ps) rising = (each ps (rising-first (λ (q : Point). q.name) p ps rising), sorted-rising ps (rising_rest (λ (q : Point). q.name) p ps rising))
   where
     each : (qs : List Point) → ((i : ℕ) (q : Point) → slice_get qs i ≡ Some q → name_cmp p.name q.name ≡ Less) → AllByRecursion (λ q. point_cmp p q ≡ Less) qs
     each [] h = tt

@@ -13,7 +13,7 @@ use Rattle.mvcc_key.specs.Encoded.{IsName, name_in}
 use Rattle.mvcc_key.specs.Points.{Point, IsRising, AreEncodable}
 use Rattle.mvcc_key.specs.declared.batch.PointOp.{PointOp}
 use Rattle.mvcc_key.specs.views.SeenPoint.{point_of, points_of, AreNamed, IsAboveLast}
-use Rattle.mvcc_key.proofs.NamedLaws.{named_range}
+use Rattle.mvcc_key.proofs.NamedLaws.{named-range}
 use Rattle.mvcc_key.proofs.PointLaws.{slice_get-front, slice_get-end, rising_push}
 
 -- the point of an operation
@@ -39,7 +39,7 @@ op_at ops i p is = by (slice_get ops i) refl (sym (slice_get-map point_of ops i)
 pub encodable-named : (ops : List PointOp) → AreNamed ops → AreEncodable (points_of ops)
 encodable-named ops named i p is =
     let op = op_at ops i p is in
-    rw (← op.2) (named_range op.0.key (named i op.0 op.1).read)
+    rw (← op.2) (named-range op.0.key (named i op.0 op.1))
 
 -- one operation more
 pub named-push : (ops : List PointOp) (op : PointOp) → AreNamed ops → IsName op.key → AreNamed (ops ++ op ∷ [])

@@ -63,16 +63,6 @@ up_to_along a b c h k = by (time_cmp a b) refl h
     by Equal e h = subst (λ x. is_up_to x c ≡ true) (sym (time_cmp-IsAntisymmetric a b e)) k
     by Greater e h = cc
 
--- a is up to b and b is before c
-pub up_to_before : (a b c : Timestamp) → is_up_to a b ≡ true → is_before b c ≡ true → is_before a c ≡ true
-up_to_before a b c h k = by (is_before a c) refl
-  where
-    by : (t : Bool) → is_before a c ≡ t → t ≡ true
-    by true e = refl
-    by false e = let none : is_before b b ≡ true = before_along b c b k (up_to_along c a b (not_before a c e) h) in
-        let itself : time_cmp b b ≡ Equal = tied_itself time_cmp-total b in
-        let f : false ≡ true = sym (ap is_lt itself) ∙ none in cc
-
 -- what is up to another does not have it before
 pub up_to_not_before : (a b : Timestamp) → is_up_to a b ≡ true → is_before b a ≡ false
 up_to_not_before a b h = by (is_before b a) refl

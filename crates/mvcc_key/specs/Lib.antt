@@ -16,4 +16,5 @@ pub mod Pieces
 pub mod Encoded
 pub mod Clock
 pub mod Points
+pub mod Batches
 pub mod views

@@ -1,13 +1,13 @@
 //! A place in a sorted list of stored pairs.
-ghost use Rattle.std.specs.Prelude.{◌≡◌, ◌≤◌, ◌<◌, ◌+◌, ◌-◌, ℕ, Bool, IsTrue, IsOk, List, length, min};
+ghost use Rattle.std.specs.Prelude.{◌≡◌, ◌≤◌, ◌<◌, ◌+◌, ℕ, Bool, List, length, min};
 ghost use Rattle.std.specs.Option.{option_map};
-ghost use Rattle.mvcc_key.specs.KeyFormat.{name_of};
-ghost use Rattle.mvcc_key.specs.Encoded.{name_in};
-ghost use Rattle.mvcc_key.specs.views.Looks.{bits};
+ghost use Rattle.mvcc_key.specs.Encoded.{name_in, IsName};
 ghost use Rattle.mvcc_key.specs.Points.{Point, IsRising, AreEncodable, key_at, value_at, count_below};
+ghost use Rattle.mvcc_key.specs.views.CursorMoves.{SeeksGe, SeeksLt, GoesOn, GoesBack, ComesTo};
 
 use crate::Looks;
-use std::sync::ledger::Ledger;
+use std::marker::Brand;
+use std::sync::ledger::{Blank, Ledger};
 
 /// A sorted list of stored pairs and a place in it, from before the first pair to past the last. Moves past an end stay there.
 /// They neither fail nor take memory, and none changes the list. Keys are encoded, and stand in the order that
@@ -27,41 +27,21 @@ pub trait Cursor {
 
     /// Goes to the first pair that is not below the encoded key, or past the last where there is none.
     fn seek_ge<L: Ledger>(&mut self, key: &[u8], looks: &mut Looks<L>)
-        requires { IsOk (name_of key.now) }
-        ensures same { points self.new ≡ points self.old }
-        ensures part { is_part self.new ≡ is_part self.old }
-        ensures place { place self.new ≡ count_below (name_in key.now) (points self.old) + 1 }
-        ensures some { 0 < length (points self.old) → looks.old < looks.new }
-        ensures later { looks.old ≤ looks.new }
-        ensures bound { IsTrue (is_part self.old) → looks.new ≤ looks.old + bits (length (points self.old)) + 2 };
+        requires { IsName key.now }
+        ensures { SeeksGe points place is_part key.now self.old self.new looks.old looks.new };
 
     /// Goes to the last pair that is below the encoded key, or before the first where there is none.
     fn seek_lt<L: Ledger>(&mut self, key: &[u8], looks: &mut Looks<L>)
-        requires { IsOk (name_of key.now) }
-        ensures same { points self.new ≡ points self.old }
-        ensures part { is_part self.new ≡ is_part self.old }
-        ensures place { place self.new ≡ count_below (name_in key.now) (points self.old) }
-        ensures some { 0 < length (points self.old) → looks.old < looks.new }
-        ensures later { looks.old ≤ looks.new }
-        ensures bound { IsTrue (is_part self.old) → looks.new ≤ looks.old + bits (length (points self.old)) + 2 };
+        requires { IsName key.now }
+        ensures { SeeksLt points place is_part key.now self.old self.new looks.old looks.new };
 
     /// Goes to the next pair, or past the last.
     fn next<L: Ledger>(&mut self, looks: &mut Looks<L>)
-        ensures same { points self.new ≡ points self.old }
-        ensures part { is_part self.new ≡ is_part self.old }
-        ensures place { place self.new ≡ min (place self.old + 1) (length (points self.old) + 1) }
-        ensures some { 0 < place self.old → place self.old ≤ length (points self.old) → looks.old < looks.new }
-        ensures later { looks.old ≤ looks.new }
-        ensures bound { IsTrue (is_part self.old) → looks.new ≤ looks.old + 1 };
+        ensures { GoesOn points place is_part self.old self.new looks.old looks.new };
 
     /// Goes to the pair before, or before the first.
     fn prev<L: Ledger>(&mut self, looks: &mut Looks<L>)
-        ensures same { points self.new ≡ points self.old }
-        ensures part { is_part self.new ≡ is_part self.old }
-        ensures place { place self.new ≡ place self.old - 1 }
-        ensures some { 0 < place self.old → place self.old ≤ length (points self.old) → looks.old < looks.new }
-        ensures later { looks.old ≤ looks.new }
-        ensures bound { IsTrue (is_part self.old) → looks.new ≤ looks.old + 1 };
+        ensures { GoesBack points place is_part self.old self.new looks.old looks.new };
 
     /// The encoded key of the pair here. `None` before the first and past the last.
     fn key(&self) -> Option<&[u8]>
@@ -76,4 +56,40 @@ pub trait Cursor {
     ghost encodable: { (c : Self) → AreEncodable (points c) };
 
     ghost in_range: { (c : Self) → place c ≤ length (points c) + 1 };
+}
+
+/// [`Cursor::seek_ge`] for a caller that counts no looks.
+pub fn seek_ge<C: Cursor>(cursor: &mut C, key: &[u8])
+    requires { IsName key.now }
+    ensures { ComesTo C.points C.place C.is_part (count_below (name_in key.now) (C.points cursor.old) + 1) cursor.old cursor.new }
+{
+    seek_ge_from::<C, Brand>(cursor, key, Blank::new(1));
+}
+
+/// The same, with the looks in a ledger of their own.
+fn seek_ge_from<C: Cursor, L: Ledger>(cursor: &mut C, key: &[u8], blank: Blank)
+    requires key { IsName key.now }
+    requires name { blank.name ≡ L.name }
+    requires parts { blank.parts ≡ L.parts }
+    requires some { 0 < blank.parts }
+    ensures { ComesTo C.points C.place C.is_part (count_below (name_in key.now) (C.points cursor.old) + 1) cursor.old cursor.new }
+{
+    cursor.seek_ge(key, &mut Looks::<L>::new(blank));
+}
+
+/// [`Cursor::next`] for a caller that counts no looks.
+pub fn next<C: Cursor>(cursor: &mut C)
+    ensures { ComesTo C.points C.place C.is_part (min (C.place cursor.old + 1) (length (C.points cursor.old) + 1)) cursor.old cursor.new }
+{
+    next_from::<C, Brand>(cursor, Blank::new(1));
+}
+
+/// The same, with the looks in a ledger of their own.
+fn next_from<C: Cursor, L: Ledger>(cursor: &mut C, blank: Blank)
+    requires name { blank.name ≡ L.name }
+    requires parts { blank.parts ≡ L.parts }
+    requires some { 0 < blank.parts }
+    ensures { ComesTo C.points C.place C.is_part (min (C.place cursor.old + 1) (length (C.points cursor.old) + 1)) cursor.old cursor.new }
+{
+    cursor.next(&mut Looks::<L>::new(blank));
 }

@@ -1,13 +1,13 @@
 //! Encoded keys: the bytes under which the record of a key, or a version of it, is stored.
-ghost use Rattle.std.specs.Prelude.{◌≡◌, ◌≢◌, ◌↔◌, ◌<◌, ◌≤◌, ◌+◌, ◌++◌, [], ◌∷◌, length, vec_len, vec_capacity, if◌then◌else◌, Ok, IfOk, OnOk, IsOk, IsNone, IfSome};
+ghost use Rattle.std.specs.Prelude.{◌≡◌, ◌≢◌, ◌↔◌, ◌<◌, ◌≤◌, ◌+◌, ◌++◌, [], ◌∷◌, length, vec_len, vec_capacity, if◌then◌else◌, Ok, IfOk, OnOk, IsNone, IfSome};
 ghost use Rattle.std.specs.Int.{w32, to_be_bytes};
-ghost use Rattle.mvcc_key.specs.Order.{is_no_time, name_cmp};
+ghost use Rattle.mvcc_key.specs.Order.{no_time, is_no_time, name_cmp};
 ghost use Rattle.mvcc_key.specs.KeyFormat.{encoded_name, encoded_time, name_of, with_wall, with_counter, last_bytes, without_last, byte_before};
 ghost use Rattle.mvcc_key.specs.Encoded.{name_in, rank_of, IsName};
 ghost use Rattle.mvcc_key.specs.views.Seen.{time_of};
-ghost use Rattle.mvcc_key.specs.views.SeenKey.{reading_of};
+ghost use Rattle.mvcc_key.specs.views.SeenKey.{reading_of, seen_name};
 
-use crate::heads::{cmp_past_heads, head_in};
+use crate::abbreviated::{abbreviated_key, cmp_past_abbreviated};
 use crate::numbers::{put_u32, put_u64, read_u32, read_u64};
 use crate::{OutOfMemory, Timestamp};
 use std::alloc::Global;
@@ -62,6 +62,7 @@ pub struct KeyRef<'a> {
 pub fn encode_key(alloc: Global, key: &[u8], ts: Timestamp) -> Result<Vec<u8>, OutOfMemory>
     ensures bytes { IfOk result (λ v. v.items ≡ encoded_name (record { key = key.now; ts = time_of ts })) }
     ensures read { IfOk result (λ v. name_of v.items ≡ Ok (record { key = key.now; ts = time_of ts })) }
+    ensures name { IfOk result (λ v. IsName v.items) }
 {
     let mut bytes = Vec::with_capacity(alloc, key.len() + encoded_len(ts))?;
     put_name(&mut bytes, key, ts);
@@ -123,6 +124,25 @@ pub fn decode_key(bytes: &[u8]) -> Result<KeyRef<'_>, KeyFault>
     ensures name { OnOk result (IsName bytes.now) }
 {
     decode(bytes)
+}
+
+/// The key and the timestamp of bytes that are known to encode some, as those of a part are. This takes no memory, and the key
+/// is not copied.
+pub fn read_key(bytes: &[u8]) -> KeyRef<'_>
+    requires { IsName bytes.now }
+    ensures { seen_name result ≡ name_in bytes.now }
+{
+    decode(bytes).unwrap()
+}
+
+/// The encoded key of the record of an encoded key's key. It stands at the front of the bytes, so that a key which was encoded
+/// with a timestamp need not be encoded again without one.
+pub fn record_key(bytes: &[u8]) -> &[u8]
+    requires { IsName bytes.now }
+    ensures named { IsName result.now }
+    ensures record_of { name_of result.now ≡ Ok (record { key = (name_in bytes.now).key; ts = no_time }) }
+{
+    bytes.split_at(key_in(bytes).len() + 1).0
 }
 
 /// The reading of bytes, by the last of them.
@@ -205,19 +225,19 @@ fn decode_counter(bytes: &[u8]) -> Result<KeyRef<'_>, KeyFault>
 /// versions from the newest to the oldest (CockroachDB `pkg/storage` `EngineKeyCompare`). This is not the order of the encoded
 /// bytes. They are compared where they lie.
 pub fn cmp_encoded(a: &[u8], b: &[u8]) -> Ordering
-    requires left { IsOk (name_of a.now) }
-    requires right { IsOk (name_of b.now) }
+    requires left { IsName a.now }
+    requires right { IsName b.now }
     ensures { result ≡ name_cmp (name_in a.now) (name_in b.now) }
 {
-    match head_in(a).cmp(&head_in(b)) {
-        Ordering::Equal => cmp_past_heads(a, b),
+    match abbreviated_key(a).cmp(&abbreviated_key(b)) {
+        Ordering::Equal => cmp_past_abbreviated(a, b),
         unequal => unequal,
     }
 }
 
 /// The last byte of an encoded key, which tells how many bytes stand behind the key and its sentinel.
 fn last_byte(bytes: &[u8]) -> u8
-    requires { IsOk (name_of bytes.now) }
+    requires { IsName bytes.now }
     ensures value { result ≡ byte_before 0 bytes.now }
     ensures within { result + 1 ≤ length bytes.now }
 {
@@ -226,7 +246,7 @@ fn last_byte(bytes: &[u8]) -> u8
 
 /// The key of an encoded key.
 pub(crate) fn key_in(bytes: &[u8]) -> &[u8]
-    requires { IsOk (name_of bytes.now) }
+    requires { IsName bytes.now }
     ensures { result.now ≡ (name_in bytes.now).key }
 {
     let behind = usize::from(last_byte(bytes)) + 1;
@@ -236,7 +256,7 @@ pub(crate) fn key_in(bytes: &[u8]) -> &[u8]
 /// Where an encoded key stands among those of its key: the wall time and the counter, and for the record more than any of
 /// these. The greater ones come first.
 pub(crate) fn rank_in(bytes: &[u8]) -> (u64, u32)
-    requires { IsOk (name_of bytes.now) }
+    requires { IsName bytes.now }
     ensures wall { result.0 ≡ rank_of (name_in bytes.now).ts }
     ensures logical { result.1 ≡ (name_in bytes.now).ts.logical }
 {

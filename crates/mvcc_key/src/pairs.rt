@@ -1,13 +1,13 @@
 //! Sorted pairs that are reached by their numbers, and the cursor over them.
-ghost use Rattle.std.specs.Prelude.{◌≡◌, ◌≤◌, ◌<◌, ◌+◌, ◌^◌, List, length, slice_get, true, Some, IfSome, IsTrue, IsOk};
+ghost use Rattle.std.specs.Prelude.{◌≡◌, ◌≤◌, ◌<◌, ◌+◌, ◌^◌, List, length, slice_get, true, Some, IfSome, IsTrue};
 ghost use Rattle.std.specs.Option.{option_map, option_and_then};
-ghost use Rattle.mvcc_key.specs.KeyFormat.{encoded_name, name_of};
-ghost use Rattle.mvcc_key.specs.Encoded.{name_in};
-ghost use Rattle.mvcc_key.specs.views.Heads.{IsHead};
+ghost use Rattle.mvcc_key.specs.KeyFormat.{encoded_name};
+ghost use Rattle.mvcc_key.specs.Encoded.{name_in, IsName};
+ghost use Rattle.mvcc_key.specs.views.AbbreviatedKey.{IsAbbreviatedKey};
 ghost use Rattle.mvcc_key.specs.views.Looks.{bits};
 ghost use Rattle.mvcc_key.specs.Points.{Point, IsRising, AreEncodable, count_below, is_below_name};
 
-use crate::heads::{cmp_past_heads, head_in};
+use crate::abbreviated::{abbreviated_key, cmp_past_abbreviated};
 use crate::{Cursor, Looks};
 use std::cmp::Ordering;
 use std::sync::ledger::Ledger;
@@ -27,10 +27,10 @@ pub trait SortedPairs {
         requires { index < length (points self.now) }
         ensures { option_map (λ p. encoded_name p.name) (slice_get (points self.now) index) ≡ Some result.now };
 
-    /// The head of a pair's key, as [`head_in`] tells it.
-    fn head(&self, index: usize) -> u64
+    /// The abbreviated key of a pair's key, as [`abbreviated_key`](crate::abbreviated_key) tells it.
+    fn abbreviated_key(&self, index: usize) -> u64
         requires { index < length (points self.now) }
-        ensures { IfSome (slice_get (points self.now) index) (λ p. IsHead p.name.key result) };
+        ensures { IfSome (slice_get (points self.now) index) (λ p. IsAbbreviatedKey p.name.key result) };
 
     /// The value of a pair, and `None` where it is cleared.
     fn value(&self, index: usize) -> Option<&[u8]>
@@ -42,31 +42,32 @@ pub trait SortedPairs {
     ghost encodable: { (s : Self) → AreEncodable (points s) };
 }
 
-/// One look: whether a pair is below the encoded key sought, whose head is known. Mostly the heads decide.
+/// One look: whether a pair is below the encoded key sought, whose abbreviated key is known. Mostly the
+/// abbreviated keys decide.
 fn is_below<P: SortedPairs, L: Ledger>(
     pairs: &P,
     index: usize,
     sought: &[u8],
-    head: u64,
+    abbreviated: u64,
     looks: &mut Looks<L>,
 ) -> bool
     requires within { index < length (P.points pairs.now) }
-    requires sought { IsOk (name_of sought.now) }
-    requires head { IsHead (name_in sought.now).key head }
+    requires sought { IsName sought.now }
+    requires abbreviated { IsAbbreviatedKey (name_in sought.now).key abbreviated }
     ensures answer { IfSome (slice_get (P.points pairs.now) index) (λ p. result ≡ is_below_name (name_in sought.now) p) }
     ensures cost { looks.new ≡ looks.old + 1 }
 {
     looks.tick();
-    match pairs.head(index).cmp(&head) {
+    match pairs.abbreviated_key(index).cmp(&abbreviated) {
         Ordering::Less => true,
-        Ordering::Equal => cmp_past_heads(pairs.key(index), sought).is_lt(),
+        Ordering::Equal => cmp_past_abbreviated(pairs.key(index), sought).is_lt(),
         Ordering::Greater => false,
     }
 }
 
 /// How many pairs are below the encoded key, by halves, each comparison a look.
 fn pairs_below<P: SortedPairs, L: Ledger>(pairs: &P, sought: &[u8], looks: &mut Looks<L>) -> usize
-    requires { IsOk (name_of sought.now) }
+    requires { IsName sought.now }
     ensures count { result ≡ count_below (name_in sought.now) (P.points pairs.now) }
     ensures within { result ≤ length (P.points pairs.now) }
     ensures small { result < 2 ^ 63 }
@@ -74,12 +75,12 @@ fn pairs_below<P: SortedPairs, L: Ledger>(pairs: &P, sought: &[u8], looks: &mut 
     ensures later { looks.old ≤ looks.new }
     ensures bound { looks.new ≤ looks.old + bits (length (P.points pairs.now)) }
 {
-    let head = head_in(sought);
+    let abbreviated = abbreviated_key(sought);
     let mut low = 0;
     let mut high = pairs.len();
     while low < high {
         let middle = low + (high - low) / 2;
-        if is_below(pairs, middle, sought, head, looks) {
+        if is_below(pairs, middle, sought, abbreviated, looks) {
             low = middle + 1;
         } else {
             high = middle;

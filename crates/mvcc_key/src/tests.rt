@@ -1,12 +1,6 @@
-ghost use Rattle.std.specs.Prelude.{◌≡◌, ◌<◌, ◌+◌, ◌^◌, length, IsOk};
-ghost use Rattle.mvcc_key.specs.KeyFormat.{name_of};
-ghost use Rattle.mvcc_key.specs.Encoded.{name_in};
-ghost use Rattle.mvcc_key.specs.Points.{count_below};
-
-mod listed;
+ghost use Rattle.std.specs.Prelude.{◌≡◌, ◌<◌};
 
 use super::*;
-use listed::Listed;
 use std::alloc::Global;
 use std::cmp::Ordering;
 use std::marker::Brand;
@@ -110,7 +104,7 @@ fn order_of(a: &[u8], b: &[u8]) -> Option<Ordering> {
 
 #[test]
 fn names_stand_in_their_order(rt: HostRuntime) {
-    // key by key, the record first, and then the newer version first; the last keys have one head
+    // key by key, the record first, and then the newer version first; the last keys have one abbreviated key
     let rising: [&[u8]; 18] = [
         b"\x00",
         b"a\x00",
@@ -173,79 +167,97 @@ fn a_counter_is_made(rt: HostRuntime) {
     assert!(rt; counts_one::<Brand>(Blank::new(1)));
 }
 
-/// How many pairs stand at or above the encoded key.
-fn count_from<C: Cursor, L: Ledger>(cursor: &mut C, key: &[u8], looks: &mut Looks<L>) -> u64
-    requires key { IsOk (name_of key.now) }
-    requires few { length (C.points cursor.old) < 2 ^ 63 }
-    ensures { count_below (name_in key.now) (C.points cursor.old) + result ≡ length (C.points cursor.old) }
-{
-    let mut count = 0;
-    cursor.seek_ge(key, looks);
-    while cursor.key().is_some() {
-        count += 1;
-        cursor.next(looks);
-    }
-    count
-}
-
-fn listed_pairs(alloc: Global) -> Result<Listed, OutOfMemory> {
-    let mut pairs = Listed::new(alloc);
-    let set: [(&[u8], u64, Option<&[u8]>); 4] = [
-        (b"a", 0, Some(b"record")),
-        (b"a", 7, Some(b"new")),
-        (b"a", 5, None),
-        (b"c", 1, Some(b"old")),
-    ];
-    for (key, wall, value) in set {
-        let value = match value {
-            Some(bytes) => Some(Bytes::copy(alloc, bytes)?),
-            None => None,
-        };
-        let key = Bytes::from_vec(encode_key(alloc, key, timestamp(wall, 0))?);
-        pairs.push(PointOp { key, value })?;
-    }
-    Ok(pairs)
-}
-
-/// Where a cursor comes to from an encoded key on: how many pairs are from there on, and the value of the last pair below it
-/// and of the one before that.
-fn looked_up<L: Ledger>(
-    pairs: &Listed,
+fn point(
+    alloc: Global,
     key: &[u8],
-    blank: Blank,
-) -> Option<(u64, Option<u8>, Option<u8>)>
-    requires name { blank.name ≡ L.name }
-    requires parts { blank.parts ≡ L.parts }
-    requires some { 0 < blank.parts }
-{
-    if decode_key(key).is_err() {
-        return None;
-    }
-    let mut looks = Looks::<L>::new(blank);
-    let mut cursor = PairsCursor::over(pairs);
-    let count = count_from(&mut cursor, key, &mut looks);
-    cursor.seek_lt(key, &mut looks);
-    let below = cursor.value().and_then(|value| value.first().copied());
-    cursor.prev(&mut looks);
-    let before = cursor.value().and_then(|value| value.first().copied());
-    Some((count, below, before))
+    wall: u64,
+    value: Option<&[u8]>,
+) -> Result<PointOp, OutOfMemory> {
+    let value = match value {
+        Some(bytes) => Some(Bytes::copy(alloc, bytes)?),
+        None => None,
+    };
+    let key = Bytes::from_vec(encode_key(alloc, key, timestamp(wall, 0))?);
+    Ok(PointOp { key, value })
+}
+
+fn range(
+    alloc: Global,
+    bounds: (&[u8], &[u8]),
+    wall: u64,
+    value: &[u8],
+) -> Result<RangeOp, OutOfMemory> {
+    Ok(RangeOp {
+        start: Key::copy(alloc, bounds.0)?,
+        end: Key::copy(alloc, bounds.1)?,
+        ts: timestamp(wall, 0),
+        set: Some(Bytes::copy(alloc, value)?),
+    })
 }
 
 #[test]
-fn a_cursor_stands_where_it_was_sent(rt: HostRuntime) -> Result<(), Fail> {
-    let pairs = listed_pairs(rt.alloc())?;
-    let cases: [(&[u8], u64, u64, Option<u8>, Option<u8>); 6] = [
-        (b"", 0, 4, None, None),
-        (b"a", 0, 4, None, None),
-        (b"a", 6, 2, Some(b'n'), Some(b'r')),
-        (b"a", 5, 2, Some(b'n'), Some(b'r')),
-        (b"b", 9, 1, None, Some(b'n')),
-        (b"d", 0, 0, Some(b'o'), None),
+fn a_batch_takes_what_can_be_stored(rt: HostRuntime) -> Result<(), Fail> {
+    let mut batch = BatchBuilder::new(rt.alloc());
+    let points: [(&[u8], u64, bool); 6] = [
+        (b"", 5, false),
+        (b"a", 0, true),
+        (b"a", 7, true),
+        (b"a", 7, false),
+        (b"a", 8, false),
+        (b"b", 9, true),
     ];
-    for (key, wall, count, below, before) in cases {
-        let sought = encode_key(rt.alloc(), key, timestamp(wall, 0))?;
-        let found = looked_up::<Brand>(&pairs, sought.as_slice(), Blank::new(1));
-        assert_eq!(rt; found, Some((count, below, before)));
+    for (key, wall, taken) in points {
+        let op = point(rt.alloc(), key, wall, None)?;
+        assert_eq!(rt; batch.push_point(op)?, taken);
+    }
+    let ranges: [(&[u8], &[u8], u64, &[u8], bool); 5] = [
+        (b"b", b"c", 2, b"", true),
+        (b"a", b"c", 1, b"", true),
+        (b"b", b"b", 1, b"", false),
+        (b"a", b"b", 0, b"", false),
+        (b"a", b"b", 1, b"x", false),
+    ];
+    for (start, end, wall, value, taken) in ranges {
+        let op = range(rt.alloc(), (start, end), wall, value)?;
+        assert_eq!(rt; batch.push_range(op)?, taken);
+    }
+    let batch = batch.into_batch();
+    assert_eq!(rt; (batch.points.len(), batch.ranges.len()), (3, 2));
+    Ok(())
+}
+
+#[test]
+fn long_things_cannot_be_stored(rt: HostRuntime) -> Result<(), Fail> {
+    let alloc = rt.alloc();
+    for (len, storable) in [(4096, true), (4097, false)] {
+        let key = vec![in alloc; b'k'; len]?;
+        assert_eq!(rt;
+            point(alloc, key.as_slice(), 1, None)?.is_storable(),
+            storable
+        );
+        let op = range(alloc, (b"a", key.as_slice()), 1, b"")?;
+        assert!(rt; op.is_storable());
+    }
+    let key = vec![in alloc; b'k'; 4098]?;
+    assert!(rt; !range(alloc, (b"a", key.as_slice()), 1, b"")?.is_storable());
+    let key = Bytes::copy(alloc, b"no encoded key")?;
+    assert!(rt; !PointOp { key, value: None }.is_storable());
+    Ok(())
+}
+
+fn record_of(alloc: Global, key: &[u8], wall: u64) -> Result<Bytes, OutOfMemory> {
+    let bytes = encode_key(alloc, key, timestamp(wall, 0))?;
+    if decode_key(bytes.as_slice()).is_err() {
+        return Ok(Bytes::new(alloc));
+    }
+    Bytes::copy(alloc, record_key(bytes.as_slice()))
+}
+
+#[test]
+fn the_record_is_at_the_front(rt: HostRuntime) -> Result<(), Fail> {
+    for wall in [0, 7] {
+        let record = record_of(rt.alloc(), b"foo", wall)?;
+        assert_eq!(rt; record.as_slice(), b"foo\x00".as_slice());
     }
     Ok(())
 }

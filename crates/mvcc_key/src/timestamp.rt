@@ -3,6 +3,7 @@ ghost use Rattle.std.specs.Prelude.{◌≡◌, ◌↔◌, ◌<◌, ◌^◌, IsTr
 ghost use Rattle.std.specs.Option.{option_map};
 ghost use Rattle.mvcc_key.specs.Order.{is_in_range, next_time, previous_time, time_cmp};
 
+use crate::{MAX_COUNT, MAX_WALL};
 use std::cmp::Ordering;
 
 /// A point of the hybrid logical clock (CockroachDB `pkg/util/hlc`): a wall time in nanoseconds, 0 to 2^63-1, and a
@@ -30,7 +31,7 @@ impl Timestamp {
         ensures some { IsSome result ↔ IsTrue (is_in_range (record { wall = wall; logical = logical })) }
         ensures parts { IfSome result (λ t. time_of t ≡ record { wall = wall; logical = logical }) }
     {
-        if wall < 1 << 63 && logical < 1 << 31 {
+        if wall <= MAX_WALL && logical <= MAX_COUNT {
             Some(Timestamp { wall, logical })
         } else {
             None
@@ -63,13 +64,13 @@ impl Timestamp {
     pub fn next(self) -> Option<Timestamp>
         ensures { option_map time_of result ≡ next_time (time_of self) }
     {
-        if self.logical < (1 << 31) - 1 {
+        if self.logical < MAX_COUNT {
             return Some(Timestamp {
                 wall: self.wall,
                 logical: self.logical + 1,
             });
         }
-        if self.wall < (1 << 63) - 1 {
+        if self.wall < MAX_WALL {
             return Some(Timestamp {
                 wall: self.wall + 1,
                 logical: 0,
@@ -91,7 +92,7 @@ impl Timestamp {
         if self.wall > 0 {
             return Some(Timestamp {
                 wall: self.wall - 1,
-                logical: (1 << 31) - 1,
+                logical: MAX_COUNT,
             });
         }
         None

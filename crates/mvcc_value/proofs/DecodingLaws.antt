@@ -9,7 +9,7 @@ use Rattle.mvcc_value.specs.declared.fault.ValueFault.TheVariants.{Short}
 use Rattle.mvcc_value.specs.Encoding.{plain_body, body_of, Value, with_local, headed_value, value_of}
 
 -- five bytes or more, with the mark of a header
-abbrev is_headed : List ℕ → Bool
+abbrev pub is_headed : List ℕ → Bool
 is_headed bytes = leb 5 (length bytes) && eqb (get_or bytes 4 0) 0x7f
 
 -- with the mark it is a value with a header

@@ -8,7 +8,7 @@ use Rattle.std.proofs.lemmas.Slice.Eq.{bytes_eq-Decides}
 use Rattle.std.proofs.Math.Nat.{pow-suc}
 use Rattle.mvcc_key.specs.Order.{Timestamp, no_time, is_no_time, is_in_range, is_before}
 use Rattle.mvcc_key.specs.History.{Body, Deletion, Bytes, Int, kept_local}
-use Rattle.mvcc_key.proofs.ByteLaws.{IsBytes, IsBytes-drop, wide32, wide64, front_back, chosen, passed}
+use Rattle.mvcc_key.proofs.ByteLaws.{IsBytes, IsBytes-drop, wide32, wide64, front-back, chosen, passed}
 use Rattle.mvcc_key.proofs.KeyFormatLaws.{in_range}
 use Rattle.mvcc_value.specs.declared.fault.ValueFault.{ValueFault}
 use Rattle.mvcc_value.specs.declared.fault.ValueFault.TheVariants.{Short, Header, LocalRange, Checksum, Tag, IntForm}
@@ -253,9 +253,9 @@ header_back : (bytes : List ℕ) → IsBytes bytes → 17 ≤ length bytes → t
     → bytes ≡ header (header_time bytes) ++ drop 17 bytes
 header_back bytes fits long front mark =
     let wall : to_be_bytes w64 (header_time bytes).wall ≡ take 8 (drop 5 bytes) =
-    front_back w64 (2 ^ 64) wide64 (drop 5 bytes) (omega (arith, length-drop 5 bytes)) (IsBytes-drop 5 bytes fits) in
+    front-back w64 (2 ^ 64) wide64 (drop 5 bytes) (omega (arith, length-drop 5 bytes)) (IsBytes-drop 5 bytes fits) in
     let logical : to_be_bytes w32 (header_time bytes).logical ≡ take 4 (drop 13 bytes) =
-    front_back w32 (2 ^ 32) wide32 (drop 13 bytes) (omega (arith, length-drop 13 bytes)) (IsBytes-drop 13 bytes fits) in
+    front-back w32 (2 ^ 32) wide32 (drop 13 bytes) (omega (arith, length-drop 13 bytes)) (IsBytes-drop 13 bytes fits) in
     let end : drop 13 bytes ≡ to_be_bytes w32 (header_time bytes).logical ++ drop 17 bytes =
     sym (take-append-drop 4 (drop 13 bytes)) ∙ ap (λ (xs : List ℕ). xs ++ drop 4 (drop 13 bytes)) (sym logical)
     ∙ ap (λ (xs : List ℕ). to_be_bytes w32 (header_time bytes).logical ++ xs) (drop-drop 4 13 bytes) in

@@ -127,8 +127,8 @@ pub record IsLastGroup (front : List ℕ) (last : ℕ) : Type 0 where
   pub some : 0 < length front → 0 < last
 
 -- the last group of a number is low, and not 0 where others stand before it
-pub last_group : (front : List ℕ) (last n : ℕ) → n < 2 ^ 64 → varint n ≡ front ++ last ∷ [] → IsLastGroup front last
-last_group front last n lt e = by (cases_lt b.number 128)
+pub last-group : (front : List ℕ) (last n : ℕ) → n < 2 ^ 64 → varint n ≡ front ++ last ∷ [] → IsLastGroup front last
+last-group front last n lt e = by (cases_lt b.number 128)
   where
     b : Behind front (last ∷ []) n
     b = behind front last [] n lt (sym e)
@@ -148,8 +148,8 @@ pub record IsInnerGroup (group number : ℕ) : Type 0 where
   pub fits : number < 2 ^ 57
 
 -- the groups before the last
-pub inner_group : (front : List ℕ) (group number n : ℕ) → n < 2 ^ 64 → number < 2 ^ 64 → varint n ≡ front ++ group ∷ varint number → IsInnerGroup group number
-inner_group front group number n lt fits e = by (cases_lt b.number 128)
+pub inner-group : (front : List ℕ) (group number n : ℕ) → n < 2 ^ 64 → number < 2 ^ 64 → varint n ≡ front ++ group ∷ varint number → IsInnerGroup group number
+inner-group front group number n lt fits e = by (cases_lt b.number 128)
   where
     b : Behind front (group ∷ varint number) n
     b = behind front group (varint number) n lt (sym e)
@@ -191,7 +191,7 @@ is_varint-bad_last bytes front last parts bad = is_varint-of_none bytes (λ n lt
     passes (f ∷ fs) g = and_from _ _ (lt-ltb _ _ g.low) (let s : 0 < last = g.some (omega arith) in rw (lt-ltb 0 last s) refl)
 
     against : (n : ℕ) → n < 2 ^ 64 → varint n ≡ front ++ last ∷ [] → ⊥
-    against n lt e = let good : is_last front last ≡ true = passes front (last_group front last n lt e) in cc
+    against n lt e = let good : is_last front last ≡ true = passes front (last-group front last n lt e) in cc
 
 -- no number has this group before those of the other number
 pub is_varint-bad_group : (bytes all front : List ℕ) (group number : ℕ) → number < 2 ^ 64 → all ≡ front ++ group ∷ [] → all ++ varint number ≡ bytes
@@ -200,8 +200,8 @@ is_varint-bad_group bytes all front group number fits parts whole bad =
     is_varint-of_none bytes (λ n lt e. against n lt (e ∙ sym whole ∙ ap (λ (xs : List ℕ). xs ++ varint number) parts ∙ append_assoc front (group ∷ []) (varint number)) bad)
   where
     against : (n : ℕ) → n < 2 ^ 64 → varint n ≡ front ++ group ∷ varint number → (group < 128) ⊎ (2 ^ 57 ≤ number) → ⊥
-    against n lt e (inl low) = omega (arith, (inner_group front group number n lt fits e).high)
-    against n lt e (inr far) = omega (arith, (inner_group front group number n lt fits e).fits)
+    against n lt e (inl low) = omega (arith, (inner-group front group number n lt fits e).high)
+    against n lt e (inr far) = omega (arith, (inner-group front group number n lt fits e).fits)
 
 -- one group more is read
 pub varint-more : (bytes all front : List ℕ) (group number : ℕ) → all ≡ front ++ group ∷ [] → all ++ varint number ≡ bytes

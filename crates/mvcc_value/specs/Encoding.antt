@@ -1,8 +1,8 @@
 -- The bytes of a value, and the first fault of bytes that are none.
-use Rattle.std.specs.Prelude.{ℕ, zero, suc, ◌+◌, ◌*◌, ◌/◌, ◌%◌, ◌^◌, ℤ, pos, negsuc, Bool, true, ◌&&◌, not, List, [], ◌∷◌, ◌++◌, length, take, drop, slice_index, Result, Ok, Err, bytes_eq, nat_lt, ◌==◌, if◌then◌else◌, ◌≡◌, FitsSigned, ⊤}
+use Rattle.std.specs.Prelude.{ℕ, zero, suc, ◌+◌, ◌*◌, ◌/◌, ◌%◌, ◌^◌, ℤ, pos, negsuc, Bool, true, false, ◌&&◌, ◌||◌, not, List, [], ◌∷◌, ◌++◌, length, take, drop, slice_index, Result, Ok, Err, bytes_eq, nat_lt, nat_le, ◌==◌, if◌then◌else◌, ◌≡◌, FitsSigned, ⊤}
 use Rattle.std.specs.Int.{w32, w64, to_be_bytes, from_be_bytes}
 use Rattle.mvcc_key.specs.Order.{Timestamp, no_time, is_no_time, is_in_range, is_before}
-use Rattle.mvcc_key.specs.History.{Body, Deletion, Bytes, Int, kept_local}
+use Rattle.mvcc_key.specs.History.{Body, Deletion, Bytes, Int, is_deletion, kept_local}
 use Rattle.mvcc_value.specs.declared.fault.ValueFault.{ValueFault}
 use Rattle.mvcc_value.specs.declared.fault.ValueFault.TheVariants.{Short, Header, LocalRange, Checksum, Tag, IntForm}
 
@@ -50,6 +50,15 @@ header_of local = if is_no_time local then [] else header local
 -- a value at ts: the local timestamp where it is kept, and the plain value
 unfoldable pub value_bytes : Body → Timestamp → Timestamp → List ℕ
 value_bytes body local ts = header_of (kept_local local ts) ++ plain_bytes body
+
+-- the bytes of a deletion: nothing, or a header alone
+abbrev pub is_deletion_value : List ℕ → Bool
+is_deletion_value bytes = (length bytes == 0) || ((length bytes == header_length) && (slice_index bytes 4 == 0x7f))
+
+-- a length that the bytes of a value may have: those of a deletion, or at least those of a plain value
+abbrev pub is_value_length : Bool → ℕ → Bool
+is_value_length true n = (n == 0) || (n == header_length)
+is_value_length false n = nat_le 5 n
 
 -- the bytes are the shortest form of a number of 64 bits
 abbrev pub is_varint : List ℕ → Bool
@@ -118,3 +127,11 @@ pub record IsValueOf (ts : Timestamp) (bytes : List ℕ) (v : Value) : Type 0 wh
   pub kept : kept_local v.local ts ≡ v.local
   pub range : is_in_range v.local ≡ true
   pub encodable : IsEncodable v.body
+
+-- the bytes of a value tell whether it is a deletion
+abbrev pub BytesTellDeletion : Type 0
+BytesTellDeletion = (body : Body) (local ts : Timestamp) → is_deletion_value (value_bytes body local ts) ≡ is_deletion body
+
+-- their number is one that they may have
+abbrev pub LengthIsOne : Type 0
+LengthIsOne = (body : Body) (local ts : Timestamp) → is_value_length (is_deletion body) (length (value_bytes body local ts)) ≡ true

@@ -1,17 +1,20 @@
 //! From bytes to a value.
-ghost use Rattle.std.specs.Prelude.{◌≡◌, ◌≤◌, Ok, Err, false, true, length, MatchOption, MatchResult, nat_le, slice_index, ◌==◌, ◌&&◌};
+ghost use Rattle.std.specs.Prelude.{◌≡◌, ◌≤◌, Ok, Err, false, true, length, IsOk, MatchOption, MatchResult, nat_le, slice_index, ◌==◌, ◌&&◌};
+ghost use Rattle.mvcc_key.specs.History as history;
+ghost use Rattle.mvcc_key.specs.Order as order;
 ghost use Rattle.mvcc_key.specs.views.Seen.{time_of};
 ghost use Rattle.mvcc_value.specs.Encoding as words;
 ghost use Rattle.mvcc_value.specs.views.Seen.{seen_body, seen_value};
 
 use crate::fault::ValueFault;
 use crate::layout::{
-    BYTES_TAG, CHECKSUM, HEADER_LEN, HEADER_MARK, HEADER_START, INT_TAG, PLAIN_LEN, is_kept,
+    BYTES_TAG, CHECKSUM, HEADER_LEN, HEADER_LOGICAL, HEADER_MARK, HEADER_START, HEADER_WALL,
+    INT_TAG, PLAIN_LEN, is_kept,
 };
 use crate::value::{Body, ValueRef};
 use crate::varint::{read_varint, to_signed};
-use byteorder::{BigEndian, ByteOrder};
 use mvcc_key::Timestamp;
+use mvcc_key::numbers::{read_u32, read_u64};
 
 /// The value of a version at `ts` that these bytes are, with its bytes lent out of them (CockroachDB `DecodeMVCCValue`), or
 /// their first fault. No bytes are a deletion, and fewer than 5 are [`ValueFault::Short`]. Bytes with the mark of a header
@@ -28,6 +31,26 @@ pub fn decode(bytes: &[u8], ts: Timestamp) -> Result<ValueRef<'_>, ValueFault>
     let body = decode_body(bytes)?;
     let local = Timestamp::NONE;
     Ok(ValueRef { local, body })
+}
+
+/// The value of a version at `ts` that these bytes are known to be, as those of a part are, with its bytes lent out of them.
+pub fn read(bytes: &[u8], ts: Timestamp) -> ValueRef<'_>
+    requires { IsOk (words.value_of (time_of ts) bytes.now) }
+    ensures { words.value_of (time_of ts) bytes.now ≡ Ok (seen_value result) }
+{
+    decode(bytes, ts).unwrap()
+}
+
+/// The plain value in the bytes of a version's value: what is behind the header, where there is one, and nothing for a deletion.
+/// No number is read (CockroachDB `EncodedMVCCValueIsTombstone`). Of bytes that are no value it says nothing.
+pub fn plain_value(bytes: &[u8]) -> &[u8]
+    ensures { (body : history.Body) (local ts : order.Timestamp) → bytes.now ≡ words.value_bytes body local ts → result.now ≡ words.plain_bytes body }
+{
+    if is_headed(bytes) && bytes.len() >= HEADER_LEN {
+        bytes.split_at(HEADER_LEN).1
+    } else {
+        bytes
+    }
 }
 
 /// The mark of a header stands where a plain value has its tag.
@@ -65,8 +88,8 @@ fn local_in(header: &[u8], ts: Timestamp) -> Option<Timestamp>
         (words.is_local (time_of ts) (words.header_time header.now) ≡ false)
         (λ t. (words.header_time header.now ≡ time_of t) × (words.is_local (time_of ts) (time_of t) ≡ true)) }
 {
-    let wall = BigEndian::read_u64(&header[5..]);
-    let logical = BigEndian::read_u32(&header[13..]);
+    let wall = read_u64(header.split_at(HEADER_WALL).1);
+    let logical = read_u32(header.split_at(HEADER_LOGICAL).1);
     let local = Timestamp::new(wall, logical)?;
     if is_kept(local, ts) {
         Some(local)

@@ -1,5 +1,5 @@
 //! From a value to its bytes.
-ghost use Rattle.std.specs.Prelude.{◌≡◌, ◌+◌, ◌^◌, ◌<◌, ◌≤◌, ◌++◌, IfOk, length, vec_len, vec_capacity};
+ghost use Rattle.std.specs.Prelude.{◌≡◌, ◌+◌, ◌^◌, ◌<◌, ◌≤◌, ◌++◌, Ok, IfOk, length, vec_len, vec_capacity};
 ghost use Rattle.mvcc_key.specs.History as history;
 ghost use Rattle.mvcc_key.specs.views.Seen.{time_of};
 ghost use Rattle.mvcc_value.specs.Encoding as words;
@@ -8,7 +8,7 @@ ghost use Rattle.mvcc_value.specs.views.Seen.{seen_body};
 use crate::layout::{BYTES_TAG, HEADER_LEN, HEADER_START, INT_TAG, PLAIN_LEN, is_kept};
 use crate::value::Body;
 use crate::varint::{put_varint, to_unsigned, varint_len};
-use byteorder::{BigEndian, ByteOrder};
+use mvcc_key::numbers::{put_bytes, put_u32, put_u64};
 use mvcc_key::{OutOfMemory, Timestamp};
 use std::alloc::Global;
 
@@ -22,7 +22,9 @@ pub fn encode(
     local: Timestamp,
     ts: Timestamp,
 ) -> Result<Vec<u8>, OutOfMemory>
-    ensures { IfOk result (λ v. v.items ≡ words.value_bytes (seen_body body.entry) (time_of local) (time_of ts)) }
+    ensures bytes { IfOk result (λ v. v.items ≡ words.value_bytes (seen_body body.entry) (time_of local) (time_of ts)) }
+    ensures read { IfOk result (λ v. words.value_of (time_of ts) v.items
+        ≡ Ok (record { local = history.kept_local (time_of local) (time_of ts); body = seen_body body.entry })) }
 {
     let mut out = Vec::with_capacity(alloc, encoded_len(body, local, ts) as usize)?;
     put_header(&mut out, kept_local(local, ts));
@@ -38,8 +40,8 @@ pub fn encoded_len(body: Body<'_>, local: Timestamp, ts: Timestamp) -> u64
     header_len(kept_local(local, ts)) + plain_len(body)
 }
 
-/// The local timestamp where it is kept, and otherwise none.
-fn kept_local(local: Timestamp, ts: Timestamp) -> Timestamp
+/// The local timestamp that a version at `ts` keeps: the given one where it is below `ts`, and otherwise [`Timestamp::NONE`].
+pub fn kept_local(local: Timestamp, ts: Timestamp) -> Timestamp
     ensures { time_of result ≡ history.kept_local (time_of local) (time_of ts) }
 {
     if is_kept(local, ts) {
@@ -72,16 +74,6 @@ fn plain_len(body: Body<'_>) -> u64
     }
 }
 
-/// Appends bytes for which there is room.
-fn append(out: &mut Vec<u8>, bytes: &[u8])
-    requires { vec_len out.old + length bytes.now ≤ vec_capacity out.old }
-    ensures items { out.new.items ≡ out.old.items ++ bytes.now }
-    ensures len { vec_len out.new ≡ vec_len out.old + length bytes.now }
-    ensures room { vec_capacity out.old ≤ vec_capacity out.new }
-{
-    out.extend_from_slice(bytes).unwrap();
-}
-
 /// Appends the header of a local timestamp, where it is one.
 fn put_header(out: &mut Vec<u8>, local: Timestamp)
     requires { vec_len out.old + length (words.header_of (time_of local)) ≤ vec_capacity out.old }
@@ -92,28 +84,25 @@ fn put_header(out: &mut Vec<u8>, local: Timestamp)
     if local == Timestamp::NONE {
         return;
     }
-    let mut wall = [0; 8];
-    BigEndian::write_u64(&mut wall, local.wall());
-    let mut logical = [0; 4];
-    BigEndian::write_u32(&mut logical, local.logical());
-    append(out, &HEADER_START);
-    append(out, &wall);
-    append(out, &logical);
+    put_bytes(out, &HEADER_START);
+    put_u64(out, local.wall());
+    put_u32(out, local.logical());
 }
 
 /// Appends the plain value.
 fn put_plain(out: &mut Vec<u8>, body: Body<'_>)
     requires { vec_len out.old + length (words.plain_bytes (seen_body body)) ≤ vec_capacity out.old }
-    ensures { out.new.items ≡ out.old.items ++ words.plain_bytes (seen_body body.entry) }
+    ensures items { out.new.items ≡ out.old.items ++ words.plain_bytes (seen_body body.entry) }
+    ensures encodable { words.IsEncodable (seen_body body.entry) }
 {
     match body {
         Body::Deletion => {}
         Body::Bytes(bytes) => {
-            append(out, &[0, 0, 0, 0, BYTES_TAG]);
-            append(out, bytes);
+            put_bytes(out, &[0, 0, 0, 0, BYTES_TAG]);
+            put_bytes(out, bytes);
         }
         Body::Int(number) => {
-            append(out, &[0, 0, 0, 0, INT_TAG]);
+            put_bytes(out, &[0, 0, 0, 0, INT_TAG]);
             put_varint(out, to_unsigned(number));
         }
     }

@@ -15,3 +15,9 @@ pub fn one_spelling(bytes: &[u8], ts: Timestamp)
         ≡ Ok (record { local = history.kept_local local (time_of ts); body = body }) }
     ensures back { (v : words.Value) → words.value_of (time_of ts) bytes.now ≡ Ok v → words.IsValueOf (time_of ts) bytes.now v }
 {}
+
+/// Whether a value is a deletion is told by its bytes, and their number is one that they may have.
+pub fn deletions_are_told()
+    ensures bytes { words.BytesTellDeletion }
+    ensures length { words.LengthIsOne }
+{}

@@ -10,6 +10,7 @@
 ghost use Rattle.std.specs.Prelude.{◌≡◌, ◌&&◌, not};
 ghost use Rattle.mvcc_key.specs.Order.{is_before, is_no_time};
 ghost use Rattle.mvcc_key.specs.views.Seen.{time_of};
+ghost use Rattle.mvcc_value.specs.Encoding as words;
 
 use mvcc_key::Timestamp;
 
@@ -31,6 +32,12 @@ pub(crate) const HEADER_START: [u8; 5] = [0, 0, 0, 0x0c, HEADER_MARK];
 /// The mark of a header.
 pub(crate) const HEADER_MARK: u8 = 0x7f;
 
+/// Where the wall time of a header begins.
+pub(crate) const HEADER_WALL: usize = 5;
+
+/// Where the logical counter of a header begins.
+pub(crate) const HEADER_LOGICAL: usize = 13;
+
 /// All of a header: its beginning, the wall time and the logical counter.
 pub(crate) const HEADER_LEN: usize = 17;
 
@@ -39,4 +46,23 @@ pub(crate) fn is_kept(local: Timestamp, ts: Timestamp) -> bool
     ensures { result ≡ (not (is_no_time (time_of local)) && is_before (time_of local) (time_of ts)) }
 {
     local != Timestamp::NONE && local.compare(ts).is_lt()
+}
+
+/// Whether these bytes, which are a value's, are those of a deletion: none, or a header alone.
+pub fn is_deletion_value(bytes: &[u8]) -> bool
+    ensures { result ≡ words.is_deletion_value bytes.now }
+{
+    bytes.is_empty() || (bytes.len() == HEADER_LEN && bytes[4] == HEADER_MARK)
+}
+
+/// Whether the encoded bytes of a deletion, or of another value, may be so many.
+pub fn is_value_len(deletion: bool, len: u32) -> bool
+    ensures { result ≡ words.is_value_length deletion len }
+{
+    let len = len as usize;
+    if deletion {
+        len == 0 || len == HEADER_LEN
+    } else {
+        len >= PLAIN_LEN
+    }
 }

@@ -11,8 +11,9 @@ mod tests;
 mod value;
 mod varint;
 
-pub use decoding::decode;
-pub use encoding::{encode, encoded_len};
+pub use decoding::{decode, plain_value, read};
+pub use encoding::{encode, encoded_len, kept_local};
 pub use fault::ValueFault;
-pub use laws::one_spelling;
-pub use value::{Body, Found, OwnedValue, PlainValue, ValueRef, as_int, is_deletion};
+pub use laws::{deletions_are_told, one_spelling};
+pub use layout::{is_deletion_value, is_value_len};
+pub use value::{Body, Found, OwnedValue, PlainValue, ValueRef, as_int, has_bytes, is_deletion};

@@ -22,6 +22,10 @@ fn check(rt: &impl Abort, alloc: Global, value: ValueRef<'_>, bytes: &[u8]) -> R
         bytes.len() as u64
     );
     assert!(rt; decode(bytes, ts) == Ok(value), "{bytes:?}");
+    assert_eq!(rt; is_deletion_value(bytes), is_deletion(&value));
+    if decode(bytes, ts).is_ok() {
+        assert!(rt; read(bytes, ts) == value);
+    }
     Ok(())
 }
 
@@ -63,6 +67,24 @@ fn worked_values(rt: HostRuntime) -> Result<(), Fail> {
         check(&rt, rt.alloc(), ValueRef { local, body }, bytes)?;
     }
     Ok(())
+}
+
+#[test]
+fn lengths_of_values(rt: HostRuntime) {
+    let rows = [
+        (true, 0, true),
+        (true, 5, false),
+        (true, 16, false),
+        (true, 17, true),
+        (true, 18, false),
+        (false, 0, false),
+        (false, 4, false),
+        (false, 5, true),
+        (false, u32::MAX, true),
+    ];
+    for (deletion, len, one) in rows {
+        assert_eq!(rt; is_value_len(deletion, len), one);
+    }
 }
 
 #[test]
@@ -189,5 +211,30 @@ fn kinds_of_values(rt: HostRuntime) -> Result<(), Fail> {
             })
         );
     }
+    Ok(())
+}
+
+#[test]
+fn plain_values_lie_behind_headers(rt: HostRuntime) {
+    let rows = [
+        (b"".as_slice(), b"".as_slice()),
+        (b"\0\0\0\0\x03abc", b"\0\0\0\0\x03abc"),
+        (
+            b"\0\0\0\x0c\x7f\0\0\0\0\x77\x35\x94\0\0\0\0\0\0\0\0\0\x03de",
+            b"\0\0\0\0\x03de",
+        ),
+        (b"\0\0\0\x0c\x7f\0\0\0\0\x77\x35\x94\0\0\0\0\0", b""),
+    ];
+    for (bytes, plain) in rows {
+        assert_eq!(rt; plain_value(bytes), plain);
+    }
+}
+
+#[test]
+fn local_timestamps_that_are_kept(rt: HostRuntime) -> Result<(), Fail> {
+    for (local, kept) in [(0, 0), (3, 3), (4, 0), (5, 0)] {
+        assert_eq!(rt; kept_local(at(local)?, at(4)?), at(kept)?, "{local}");
+    }
+    has_bytes(Body::Int(i64::MIN));
     Ok(())
 }

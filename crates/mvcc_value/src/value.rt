@@ -1,6 +1,7 @@
 //! The types of values.
 ghost use Rattle.std.specs.Prelude.{◌≡◌, IfOk};
 ghost use Rattle.mvcc_key.specs.History as history;
+ghost use Rattle.mvcc_value.specs.Encoding.{IsEncodable};
 ghost use Rattle.mvcc_value.specs.views.Seen.{int_of, owned_body, plain_body, seen_body};
 
 use mvcc_key::{Key, OutOfMemory, Timestamp};
@@ -74,6 +75,15 @@ impl OwnedValue {
             OwnedValue::Bytes(bytes) => PlainValue::Bytes(bytes.bytes()),
             OwnedValue::Int(number) => PlainValue::Int(*number),
         }
+    }
+}
+
+/// Each value has bytes: a number has 64 signed bits. This does nothing.
+pub fn has_bytes(body: Body<'_>)
+    ensures { IsEncodable (seen_body body.entry) }
+{
+    match body {
+        Body::Deletion | Body::Bytes(_) | Body::Int(_) => {}
     }
 }
 

@@ -1,5 +1,5 @@
 -- A list whose touched part is made anew is the list after the change.
-use Rattle.std.specs.Prelude.{◌≡◌, ℕ, ◌≤◌, Bool, true, List, [], ◌++◌, take, drop, filter, slice_range}
+use Rattle.std.specs.Prelude.{◌≡◌, ℕ, ◌≤◌, Bool, true, List, [], ◌++◌, take, drop, filter, slice_range, Result, Ok, Err, OnOk, OnErr}
 use Rattle.std.proofs.Common.{refl, sym, ◌∙◌, ap, subst}
 use Rattle.std.proofs.lemmas.List.{take-append-drop}
 use Rattle.std.proofs.lemmas.List.Folds.{drop_split}
@@ -83,6 +83,32 @@ taken-list start end test low high shown old pieces span shows c ordered left ri
     ∙ ap (λ us. take low shown ++ (us ++ drop high shown)) is
     ∙ sym (take_out-around start end test tombstones (take low shown) (slice_range shown low high) (drop high shown) span
     (sym (shows ∙ same) ∙ three-ranges low high shown ordered) left right))
+
+-- the same of a list that is shown
+pub added-shown : (start end : Key) (ts : Timestamp) (put : List Fragment → List Fragment) (shown old : List Fragment) → shown ≡ old → IsCanonical old
+    → AddsTombstone start end ts shown (put shown) → IsAdded start end ts old (put old)
+added-shown start end ts put shown old same c adds = added-is start end ts old (put old) c (subst (λ fs. AddsTombstone start end ts fs (put fs)) same adds)
+
+pub taken-shown : (start end : Key) (test : Timestamp → Bool) (put : List Fragment → List Fragment) (shown old : List Fragment) → is_below start end ≡ true → shown ≡ old
+    → IsCanonical old → TakesOut start end test shown (put shown) → IsTaken start end test old (put old)
+taken-shown start end test put shown old span same c takes =
+    taken-is start end test old (put old) span c (subst (λ fs. TakesOut start end test fs (put fs)) same takes)
+
+-- what a call that may be refused leaves: the list after the change, or the old list
+pub record IsEither {T E : Type 0} (result : Result T E) (made old new : List Fragment) : Type 0 where
+  pub ok : OnOk result (new ≡ made)
+  pub err : OnErr result (new ≡ old)
+
+module _ {T E : Type 0} (P : List Fragment → Type 0) where
+  -- what holds of the list after the change holds where the call is accepted
+  pub either-ok : (result : Result T E) (made old new : List Fragment) → IsEither result made old new → P made → OnOk result (P new)
+  either-ok (Ok v) made old new is p = subst P (sym is.ok) p
+  either-ok (Err e) made old new is p = tt
+
+  -- what holds of both lists holds of what is left
+  pub either : (result : Result T E) (made old new : List Fragment) → IsEither result made old new → P made → P old → P new
+  either (Ok v) made old new is p q = subst P (sym is.ok) p
+  either (Err e) made old new is p q = subst P (sym is.err) q
 
 -- no tombstones have no fragments
 pub fragments-none : [] ≡ fragments []

@@ -4,7 +4,7 @@ use Rattle.std.proofs.Common.{refl, sym, ◌∙◌, ap, append_assoc, append-nil
 use Rattle.mvcc_key.specs.Order.{Timestamp, Key, is_same_key}
 use Rattle.mvcc_key.specs.Fragments.{Fragment, is_same_stack, join_to, joined}
 use Rattle.mvcc_key.specs.Pieces.{piece}
-use Rattle.mvcc_key.proofs.StackLaws.{same_stack_is, both_true}
+use Rattle.mvcc_key.proofs.StackLaws.{same-stack_is, both_true}
 use Rattle.range_key.specs.views.Joining.{is_one_with_last, with_last_end, joined_with, joined_on}
 
 -- by a known last, a piece is one with the last
@@ -46,7 +46,7 @@ three f g p = by (is_same_key f.end g.start && is_same_stack f.stack g.stack) (i
   where
     subst_stack : (b : Bool) → (is_same_key f.end g.start && is_same_stack f.stack g.stack) ≡ true → (is_same_key g.end p.start && is_same_stack g.stack p.stack) ≡ b
         → (is_same_key g.end p.start && is_same_stack f.stack p.stack) ≡ b
-    subst_stack b e k = ap (λ (s : List Timestamp). is_same_key g.end p.start && is_same_stack s p.stack) (same_stack_is f.stack g.stack (both_true (is_same_key f.end g.start) (is_same_stack f.stack g.stack) e).1) ∙ k
+    subst_stack b e k = ap (λ (s : List Timestamp). is_same_key g.end p.start && is_same_stack s p.stack) (same-stack_is f.stack g.stack (both_true (is_same_key f.end g.start) (is_same_stack f.stack g.stack) e).1) ∙ k
 
     by : (a b : Bool) → (is_same_key f.end g.start && is_same_stack f.stack g.stack) ≡ a → (is_same_key g.end p.start && is_same_stack g.stack p.stack) ≡ b
         → join_to f (cond b (piece g.start p.end g.stack ∷ []) (g ∷ p ∷ [])) ≡ joined_with (cond a (piece f.start g.end f.stack ∷ []) (f ∷ g ∷ [])) p

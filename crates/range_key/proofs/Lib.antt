@@ -4,3 +4,7 @@ pub mod PartLaws
 pub mod JoiningLaws
 pub mod TimesLaws
 pub mod ChangedLaws
+pub mod PutLaws
+pub mod SameLaws
+pub mod OperationLaws
+pub mod KindLaws

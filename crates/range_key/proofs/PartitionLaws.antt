@@ -11,7 +11,7 @@ use Rattle.mvcc_key.proofs.CanonicalLaws.{at_or_below}
 use Rattle.mvcc_key.proofs.StackLaws.{le_trans, not_below_is}
 use Rattle.mvcc_key.proofs.SpanCutLaws.{low_up}
 use Rattle.range_key.specs.views.Places.{FirstFails}
-use Rattle.range_key.proofs.PlaceLaws.{not_at_is}
+use Rattle.range_key.proofs.PlaceLaws.{not_at-is}
 
 -- a piece that stands behind the bound
 record StandsFrom (b : Key) (g : Fragment) : Type 0 where
@@ -88,4 +88,4 @@ fails-from key (f ∷ fs) h = not_below_is f.start key h
 -- a list whose first does not start at the key or below it starts above it
 pub fails-above : (key : Key) (fs : List Fragment) → FirstFails (λ f. is_at_or_below f.start key) fs → StartsAbove key fs
 fails-above key [] h = tt
-fails-above key (f ∷ fs) h = not_at_is f.start key h
+fails-above key (f ∷ fs) h = not_at-is f.start key h

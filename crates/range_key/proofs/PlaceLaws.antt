@@ -9,26 +9,26 @@ use Rattle.mvcc_key.specs.Order.{Key, is_below, is_at_or_below, is_within}
 use Rattle.mvcc_key.specs.Fragments.{Fragment}
 use Rattle.mvcc_key.specs.Pieces.{ArePieces, EndBy, StartsFrom}
 use Rattle.mvcc_key.proofs.CanonicalLaws.{at_or_below, below_up}
-use Rattle.mvcc_key.proofs.StackLaws.{le_trans, below_means, not_below_is}
+use Rattle.mvcc_key.proofs.StackLaws.{le_trans, below-means, not_below_is}
 use Rattle.mvcc_key.proofs.UniqueLaws.{above_means}
 use Rattle.range_key.specs.views.Places.{EndsAbove}
 
 -- what is not at or below a bound is above it
-pub not_at_is : (a b : Key) → is_at_or_below a b ≡ false → is_below b a ≡ true
-not_at_is a b h = by (is_below b a) refl
+pub not_at-is : (a b : Key) → is_at_or_below a b ≡ false → is_below b a ≡ true
+not_at-is a b h = by (is_below b a) refl
   where
     by : (t : Bool) → is_below b a ≡ t → t ≡ true
     by true e = refl
     by false e = let le : is_at_or_below a b ≡ true = not_below_is b a e in cc
 
 -- pieces behind a bound end behind it
-pub ends_behind : (b : Key) (fs : List Fragment) (m : ℕ) (g : Fragment) → ArePieces fs → StartsFrom b fs → slice_get fs m ≡ Some g → is_at_or_below b g.end ≡ true
-ends_behind b [] m g p s at = cc
-ends_behind b (f ∷ fs) zero g p s at =
+pub ends-behind : (b : Key) (fs : List Fragment) (m : ℕ) (g : Fragment) → ArePieces fs → StartsFrom b fs → slice_get fs m ≡ Some g → is_at_or_below b g.end ≡ true
+ends-behind b [] m g p s at = cc
+ends-behind b (f ∷ fs) zero g p s at =
     let same : f ≡ g = cc in
     rw (sym same) (le_trans b f.start f.end s (at_or_below f.start f.end (p.0).span))
-ends_behind b (f ∷ fs) (suc m) g p s at =
-    le_trans b f.end g.end (le_trans b f.start f.end s (at_or_below f.start f.end (p.0).span)) (ends_behind f.end fs m g p.2 p.1 at)
+ends-behind b (f ∷ fs) (suc m) g p s at =
+    le_trans b f.end g.end (le_trans b f.start f.end s (at_or_below f.start f.end (p.0).span)) (ends-behind f.end fs m g p.2 p.1 at)
 
 -- all up to a piece that ends by the bound do so
 pub ends_by-take : (key : Key) (fs : List Fragment) (m : ℕ) (g : Fragment) → ArePieces fs → slice_get fs m ≡ Some g → is_at_or_below g.end key ≡ true
@@ -38,7 +38,7 @@ ends_by-take key fs m g p at low = rw (add-one) (by fs m p at)
     by : (fs : List Fragment) (m : ℕ) → ArePieces fs → slice_get fs m ≡ Some g → EndBy key (take (suc m) fs)
     by [] m p at = tt
     by (f ∷ fs) zero p at = let same : f ≡ g = cc in (rw same low, tt)
-    by (f ∷ fs) (suc m) p at = (le_trans f.end g.end key (ends_behind f.end fs m g p.2 p.1 at) low, by fs m p.2 at)
+    by (f ∷ fs) (suc m) p at = (le_trans f.end g.end key (ends-behind f.end fs m g p.2 p.1 at) low, by fs m p.2 at)
 
 -- what stands from a piece on begins with it
 pub ends_above-drop : (key : Key) (fs : List Fragment) (m : ℕ) (g : Fragment) → slice_get fs m ≡ Some g → is_at_or_below g.end key ≡ false
@@ -55,7 +55,7 @@ find-below [] b key p s h = refl
 find-below (f ∷ fs) b key p s h =
     let under : is_below key f.start ≡ true = below_up key b f.start h s in
     let low : is_below key f.end ≡ true = below_up key f.start f.end under (at_or_below f.start f.end (p.0).span) in
-    ap (λ t. cond (t && is_below key f.end) (Some f) (find (λ f. is_within f.start f.end key) fs)) (below_means key f.start under)
+    ap (λ t. cond (t && is_below key f.end) (Some f) (find (λ f. is_within f.start f.end key) fs)) (below-means key f.start under)
     ∙ find-below fs f.end key p.2 p.1 low
 
 -- the fragment that contains the key is at the first place that ends above it, or there is none
@@ -66,7 +66,7 @@ find-at key [] place p before from = refl
 find-at key (f ∷ fs) zero p before from = by (is_at_or_below f.start key) refl
   where
     low : is_below key f.end ≡ true
-    low = not_at_is f.end key from
+    low = not_at-is f.end key from
 
     by : (t : Bool) → is_at_or_below f.start key ≡ t
         → cond (t && is_below key f.end) (Some f) (find (λ f. is_within f.start f.end key) fs) ≡ cond t (Some f) None

@@ -1,1 +1,2 @@
+pub mod RangeOps
 pub mod views

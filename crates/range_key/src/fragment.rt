@@ -1,10 +1,14 @@
 //! Fragments.
-ghost use Rattle.std.specs.Prelude.{◌≡◌, IfOk, ◌&&◌, filter, not};
+ghost use Rattle.std.specs.Prelude.{◌≡◌, ◌+◌, ◌≤◌, IfOk, ◌&&◌, filter, not, vec_len, vec_capacity};
+ghost use Rattle.std.proofs.lemmas.Cmp.{nat_list_eq_equiv, and_equiv, on_equiv, lists_equiv};
+ghost use Rattle.std.specs.Cmp.{partial_equiv_from_equiv};
+ghost use Rattle.mvcc_key.proofs.FragmentLaws.{is_same_time-equiv};
 ghost use Rattle.mvcc_key.specs.Fragments.{is_same_stack};
 ghost use Rattle.mvcc_key.specs.Lists.{put_in_order};
 ghost use Rattle.mvcc_key.specs.Order.{is_same_key, newer_first};
 ghost use Rattle.mvcc_key.specs.Pieces.{piece};
 ghost use Rattle.mvcc_key.specs.views.Seen.{time_of};
+ghost use Rattle.range_key.specs.views.Changes.{is_same_fragment};
 ghost use Rattle.range_key.specs.views.Taken.{is_taken};
 
 use crate::Stack;
@@ -45,6 +49,14 @@ impl Fragment {
             end: Key::copy(alloc, end)?,
             stack,
         })
+    }
+
+    /// A copy of it.
+    pub(crate) fn copy_of(&self, alloc: Global) -> Result<Fragment, OutOfMemory>
+        ensures { IfOk result (λ f. f ≡ self.now) }
+    {
+        let stack = self.copy_stack(alloc)?;
+        Fragment::copy(alloc, self.start_bytes(), self.end_bytes(), stack)
     }
 
     /// Its stack, copied.
@@ -88,4 +100,35 @@ impl Fragment {
     {
         self.end_bytes() == start && self.stack.is_same(stack)
     }
+}
+
+impl PartialEq for Fragment {
+    ghost eq = { is_same_fragment };
+
+    ghost laws = { partial_equiv_from_equiv (and_equiv (and_equiv (on_equiv (λ f. f.start) nat_list_eq_equiv)
+        (on_equiv (λ f. f.end) nat_list_eq_equiv)) (on_equiv (λ f. f.stack) (lists_equiv is_same_time-equiv))) };
+
+    /// Whether the other has the same bounds and the same stack.
+    fn eq(&self, other: &Fragment) -> bool {
+        self.start_bytes() == other.start_bytes()
+            && self.end_bytes() == other.end_bytes()
+            && self.stack.is_same(&other.stack)
+    }
+}
+
+/// Copies of the fragments, with room for so many more.
+pub(crate) fn copied(
+    alloc: Global,
+    fragments: &[Fragment],
+    more: usize,
+) -> Result<Vec<Fragment>, OutOfMemory>
+    ensures items { IfOk result (λ v. v.items ≡ fragments.now) }
+    ensures room { IfOk result (λ v. vec_len v + more ≤ vec_capacity v) }
+{
+    let mut copies = Vec::with_capacity(alloc, fragments.len().saturating_add(more))?;
+    for fragment in fragments {
+        copies.push(fragment.copy_of(alloc)?)?;
+    }
+    copies.reserve(more)?;
+    Ok(copies)
 }

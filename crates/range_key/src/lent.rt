@@ -34,7 +34,7 @@ impl<'a> Model for FragmentsRef<'a> {
 
 impl<'a> FragmentsRef<'a> {
     /// The fragments of the list.
-    pub(crate) fn of(alloc: Global, held: &'a [Fragment]) -> FragmentsRef<'a>
+    pub(crate) fn over(alloc: Global, held: &'a [Fragment]) -> FragmentsRef<'a>
         requires { IsCanonical held.now }
         ensures { result ≡ held.now }
     {

@@ -5,14 +5,18 @@ ghost use Rattle.std.specs.Option.{option_copied};
 ghost use Rattle.mvcc_key.specs.Canonical.{IsCanonical, is_apart};
 ghost use Rattle.mvcc_key.specs.Fragments.{cut_to, fragments};
 ghost use Rattle.mvcc_key.specs.views.Looks.{bits};
-ghost use Rattle.mvcc_key.specs.Order.{is_below, is_in_window, is_within};
+ghost use Rattle.mvcc_key.specs.Order.{is_below, is_in_window, is_same_time, is_within};
 ghost use Rattle.mvcc_key.specs.views.Seen.{time_of};
-ghost use Rattle.range_key.specs.views.Changes.{AddsTombstone, Applies, PutsOver, TakesFrom, TakesOut, tombstones_after};
+ghost use Rattle.range_key.specs.RangeOps.{fragments_with, operations_of, removing, setting, tombstones_after};
+ghost use Rattle.range_key.specs.views.Changes.{AddsTombstone, PutsOver, TakesFrom, TakesOut, without_times};
+ghost use Rattle.range_key.specs.views.Planned.{IsWithin, with_pieces};
+ghost use Rattle.range_key.specs.views.SeenOps.{range_op_of, range_ops_of};
 ghost use Rattle.range_key.specs.views.Taken.{is_taken};
 
-use crate::change::{added, thinned};
 use crate::cut::cut;
-use crate::place::{fragment_at, touched};
+use crate::ops::ops_of;
+use crate::place::fragment_at;
+use crate::planned::{Change, plan_add, plan_taking};
 use crate::taken::Taken;
 use crate::{Fragment, FragmentsRef};
 use mvcc_key::{Looks, OutOfMemory, RangeOp, Timestamp};
@@ -56,7 +60,7 @@ impl FragmentList {
     /// span, and one that removes takes its very timestamp out of it.
     pub fn of_ops(alloc: Global, ops: &[RangeOp]) -> Result<FragmentList, OutOfMemory>
         requires { AllPass (λ op. is_below op.start op.end) ops.now }
-        ensures value { IfOk result (λ l. l ≡ fragments (tombstones_after ops.now)) }
+        ensures value { IfOk result (λ l. l ≡ fragments (tombstones_after (range_ops_of ops.now))) }
         ensures canonical { IfOk result IsCanonical }
     {
         let mut list = FragmentList::new(alloc);
@@ -108,29 +112,27 @@ impl FragmentList {
     pub fn lend(&self) -> FragmentsRef<'_>
         ensures { result ≡ self.now }
     {
-        FragmentsRef::of(self.alloc(), self.as_slice())
+        FragmentsRef::over(self.alloc(), self.as_slice())
     }
 
     /// Lays a tombstone over the span: its timestamp is over each key there, once. Only the fragments that overlap the span or
-    /// abut it are looked at, and the fragments behind them are moved once. The memory is taken before the first change.
+    /// abut it are made anew, and those behind them are moved at most once. The memory is taken before the first change.
     pub fn add(&mut self, start: &[u8], end: &[u8], ts: Timestamp) -> Result<(), OutOfMemory>
         requires { IsTrue (is_below start.now end.now) }
         ensures ok { OnOk result (AddsTombstone start.now end.now (time_of ts) self.old self.new) }
+        ensures op { OnOk result (self.new ≡ fragments_with self.old (setting start.now end.now (time_of ts))) }
         ensures stacks { OnOk result (PutsOver start.now end.now (time_of ts) self.old self.new) }
         ensures apart { filter (is_apart start.now end.now) self.new
             ≡ filter (is_apart start.now end.now) self.old }
         ensures canonical { IsCanonical self.new }
         ensures err { OnErr result (self.new ≡ self.old) }
     {
-        let fragments = self.as_slice();
-        let (low, high) = touched(fragments, start, end);
-        let pieces = added(self.alloc(), &fragments[low..high], start, end, ts)?;
-        self.replace(low, high, pieces)?;
-        Ok(())
+        let change = plan_add(self.alloc(), self.as_slice(), start, end, ts)?;
+        self.carry_out(change)
     }
 
     /// Takes the timestamps above `from` and at or below `to` out of the span. Only the fragments that overlap the span or abut
-    /// it are looked at, and the fragments behind them are moved once. The memory is taken before the first change.
+    /// it are made anew, and those behind them are moved at most once. The memory is taken before the first change.
     pub fn remove(
         &mut self,
         start: &[u8],
@@ -160,46 +162,86 @@ impl FragmentList {
         fragment_at(self.as_slice(), key, looks)
     }
 
-    /// Carries out one operation.
-    fn apply(&mut self, op: &RangeOp) -> Result<(), OutOfMemory>
+    /// Takes one timestamp out of the span, as [`remove`](FragmentList::remove) takes those of a window.
+    pub fn remove_at(&mut self, start: &[u8], end: &[u8], ts: Timestamp) -> Result<(), OutOfMemory>
+        requires { IsTrue (is_below start.now end.now) }
+        ensures ok { OnOk result (TakesOut start.now end.now (λ t. is_same_time t (time_of ts)) self.old self.new) }
+        ensures op { OnOk result (self.new ≡ fragments_with self.old (removing start.now end.now (time_of ts))) }
+        ensures stacks { OnOk result (TakesFrom start.now end.now (λ t. is_same_time t (time_of ts)) self.old self.new) }
+        ensures apart { filter (is_apart start.now end.now) self.new
+            ≡ filter (is_apart start.now end.now) self.old }
+        ensures canonical { IsCanonical self.new }
+        ensures err { OnErr result (self.new ≡ self.old) }
+    {
+        self.take_out(start, end, Taken::One(ts))
+    }
+
+    /// Carries out one operation: one that sets is [`add`](FragmentList::add), and one that removes is
+    /// [`remove_at`](FragmentList::remove_at).
+    pub fn apply(&mut self, op: &RangeOp) -> Result<(), OutOfMemory>
         requires { IsTrue (is_below op.now.start op.now.end) }
-        ensures ok { OnOk result (Applies op.now self.old self.new) }
+        ensures ok { OnOk result (self.new ≡ fragments_with self.old (range_op_of op.now)) }
+        ensures canonical { IsCanonical self.new }
         ensures err { OnErr result (self.new ≡ self.old) }
     {
         let (start, end) = (op.start.bytes(), op.end.bytes());
         match op.set {
             Some(_) => self.add(start, end, op.ts),
-            None => self.take_out(start, end, Taken::One(op.ts)),
+            None => self.remove_at(start, end, op.ts),
         }
+    }
+
+    /// The operations that set what the fragments stand for: one for each timestamp of each fragment, by their starts and then
+    /// from the newest. Carried out in their order they give the fragments again.
+    pub fn to_ops(&self) -> Result<Vec<RangeOp>, OutOfMemory>
+        ensures { IfOk result (λ ops. range_ops_of ops.items ≡ operations_of self.now) }
+    {
+        ops_of(self.alloc(), self.as_slice())
     }
 
     /// Takes timestamps out of the span.
     fn take_out(&mut self, start: &[u8], end: &[u8], taken: Taken) -> Result<(), OutOfMemory>
         requires { IsTrue (is_below start.now end.now) }
         ensures ok { OnOk result (TakesOut start.now end.now (is_taken taken) self.old self.new) }
+        ensures shows { OnOk result (self.new ≡ without_times start.now end.now (is_taken taken) self.old) }
         ensures stacks { OnOk result (TakesFrom start.now end.now (is_taken taken) self.old self.new) }
         ensures apart { filter (is_apart start.now end.now) self.new
             ≡ filter (is_apart start.now end.now) self.old }
         ensures canonical { IsCanonical self.new }
         ensures err { OnErr result (self.new ≡ self.old) }
     {
-        let fragments = self.as_slice();
-        let (low, high) = touched(fragments, start, end);
-        let pieces = thinned(self.alloc(), &fragments[low..high], start, end, taken)?;
-        self.replace(low, high, pieces)?;
+        let change = plan_taking(self.alloc(), self.as_slice(), start, end, taken)?;
+        self.carry_out(change)
+    }
+
+    /// Puts a change in place, where there is memory for it. One that alters nothing does nothing.
+    fn carry_out(&mut self, change: Change) -> Result<(), OutOfMemory>
+        requires within { IsWithin self.old change }
+        requires canonical { IsCanonical (with_pieces self.old change) }
+        ensures ok { OnOk result (self.new ≡ with_pieces self.old change) }
+        ensures err { OnErr result (self.new ≡ self.old) }
+    {
+        if change.alters(self.held.as_slice()) {
+            self.held.reserve(change.len())?;
+            change.put_in(&mut self.held);
+        }
         Ok(())
     }
 
-    /// Puts the pieces in the place of the fragments from the first place up to, and without, the second.
-    fn replace(&mut self, low: usize, high: usize, pieces: Vec<Fragment>) -> Result<(), OutOfMemory>
-        requires ordered { low ≤ high }
-        requires within { high ≤ length self.old }
-        requires canonical { IsCanonical (take low self.old ++ (pieces.items ++ drop high self.old)) }
-        ensures ok { OnOk result (self.new ≡ take low self.old ++ (pieces.items ++ drop high self.old)) }
-        ensures err { OnErr result (self.new ≡ self.old) }
+    /// The list of these fragments.
+    pub(crate) fn of(held: Vec<Fragment>) -> FragmentList
+        requires { IsCanonical held.items }
+        ensures { result ≡ held.items }
     {
-        self.held.splice(low..high, pieces)?;
-        Ok(())
+        FragmentList { held }
+    }
+
+    /// Its fragments.
+    pub(crate) fn into_vec(self) -> Vec<Fragment>
+        ensures items { result.items ≡ self }
+        ensures canonical { IsCanonical self }
+    {
+        self.held
     }
 
     /// The allocator.

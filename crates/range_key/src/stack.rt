@@ -66,7 +66,7 @@ impl Stack {
         let times = self.held.as_slice();
         let mut held = SmallVec::with_capacity(alloc, times.len() + 1)?;
         held.extend_from_slice(times)?;
-        if let Err(place) = place_of(times, ts) {
+        if let Err(place) = position_of(times, ts) {
             held.insert(place, ts)?;
         }
         Ok(Stack { held })
@@ -101,7 +101,7 @@ impl Stack {
 }
 
 /// The place of a timestamp among others, newest first, or that where it is to stand.
-fn place_of(times: &[Timestamp], ts: Timestamp) -> Result<usize, usize>
+fn position_of(times: &[Timestamp], ts: Timestamp) -> Result<usize, usize>
     ensures bound { IsSearchInRange result (length times.now) }
     ensures place { IsBinarySearchResult (λ t. time_cmp (time_of ts) (time_of t)) times.now result }
 {

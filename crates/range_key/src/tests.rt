@@ -74,6 +74,19 @@ fn shows(list: &FragmentList, shown: &[Shown]) -> bool {
     list.get(shown.len()).is_none()
 }
 
+fn has_staged(staged: &StagedFragments, shown: &[Shown]) -> bool {
+    let list = staged.lend();
+    if list.len() != shown.len() {
+        return false;
+    }
+    for (place, one) in shown.iter().enumerate() {
+        if !is_shown(list.get(place), *one) {
+            return false;
+        }
+    }
+    true
+}
+
 const OVER: [Change; 2] = [Change::Add(b"a", b"e", 5), Change::Add(b"b", b"d", 6)];
 
 #[test]
@@ -302,5 +315,164 @@ fn a_list_is_lent(rt: HostRuntime) -> Result<(), Fail> {
     assert!(rt; is_lent_at::<Brand>(&lent, b"c", second, Blank::new(1)));
     assert!(rt; shows(&lent.truncate(b"b", b"d")?, &[second]));
     assert!(rt; is_shared(&list) && is_shared(&lent));
+    Ok(())
+}
+
+/// A start, an end, a wall time, and whether the operation sets.
+type Op = (&'static [u8], &'static [u8], u64, bool);
+
+fn stage_each(staged: &mut StagedFragments, ops: &[Op]) -> Result<(), OutOfMemory> {
+    for &(start, end, wall, sets) in ops {
+        if start.cmp(end).is_lt() {
+            if sets {
+                staged.stage_add(start, end, at_wall(wall))?;
+            } else {
+                staged.stage_remove_at(start, end, at_wall(wall))?;
+            }
+        }
+    }
+    Ok(())
+}
+
+fn committed(alloc: Global, batches: &[&[Op]]) -> Result<StagedFragments, OutOfMemory> {
+    let mut staged = StagedFragments::new(alloc);
+    for ops in batches {
+        stage_each(&mut staged, ops)?;
+        staged.commit();
+    }
+    Ok(staged)
+}
+
+#[test]
+fn staged_operations_are_put_in_place(rt: HostRuntime) -> Result<(), Fail> {
+    let cases: [(&[&[Op]], &[Shown]); 8] = [
+        (
+            &[&[(b"a", b"e", 5, true)], &[(b"b", b"d", 6, true)]],
+            &[
+                (b"a", b"b", &[5]),
+                (b"b", b"d", &[6, 5]),
+                (b"d", b"e", &[5]),
+            ],
+        ),
+        (
+            &[&[(b"a", b"e", 5, true), (b"b", b"d", 6, true)]],
+            &[
+                (b"a", b"b", &[5]),
+                (b"b", b"d", &[6, 5]),
+                (b"d", b"e", &[5]),
+            ],
+        ),
+        (
+            &[&[(b"a", b"c", 5, true)], &[(b"c", b"e", 5, true)]],
+            &[(b"a", b"e", &[5])],
+        ),
+        (
+            &[&[(b"c", b"e", 5, true), (b"a", b"c", 5, true)]],
+            &[(b"a", b"e", &[5])],
+        ),
+        (
+            &[&[(b"a", b"e", 5, true)], &[(b"b", b"d", 5, false)]],
+            &[(b"a", b"b", &[5]), (b"d", b"e", &[5])],
+        ),
+        (
+            &[
+                &[(b"a", b"b", 5, true), (b"c", b"e", 5, true)],
+                &[(b"x", b"y", 7, true)],
+                &[(b"b", b"c", 5, true)],
+                &[(b"x", b"y", 6, false)],
+            ],
+            &[(b"a", b"e", &[5]), (b"x", b"y", &[7])],
+        ),
+        (
+            &[&[
+                (b"a", b"e", 5, true),
+                (b"b", b"d", 5, false),
+                (b"c", b"d", 4, true),
+            ]],
+            &[(b"a", b"b", &[5]), (b"c", b"d", &[4]), (b"d", b"e", &[5])],
+        ),
+        (&[&[(b"a", b"e", 5, true)], &[(b"", b"z", 5, false)]], &[]),
+    ];
+    for (batches, shown) in cases {
+        assert!(rt; has_staged(&committed(rt.alloc(), batches)?, shown));
+    }
+    Ok(())
+}
+
+#[test]
+fn what_is_staged_waits(rt: HostRuntime) -> Result<(), Fail> {
+    let cases: [(&[Op], bool, &[Shown]); 4] = [
+        (&[(b"b", b"d", 5, true)], false, &[(b"a", b"e", &[5])]),
+        (&[(b"d", b"g", 5, true)], true, &[(b"a", b"g", &[5])]),
+        (
+            &[(b"b", b"d", 6, true), (b"b", b"d", 6, false)],
+            false,
+            &[(b"a", b"e", &[5])],
+        ),
+        (
+            &[(b"b", b"d", 6, true), (b"b", b"d", 5, false)],
+            true,
+            &[(b"a", b"b", &[5]), (b"b", b"d", &[6]), (b"d", b"e", &[5])],
+        ),
+    ];
+    for (ops, changes, shown) in cases {
+        let mut staged = committed(rt.alloc(), &[&[(b"a", b"e", 5, true)]])?;
+        stage_each(&mut staged, ops)?;
+        assert!(rt; staged.is_changed() == changes);
+        assert!(rt; has_staged(&staged, &[(b"a", b"e", &[5])]));
+        staged.commit();
+        assert!(rt; !staged.is_changed() && has_staged(&staged, shown));
+    }
+    Ok(())
+}
+
+#[test]
+fn what_is_discarded_is_gone(rt: HostRuntime) -> Result<(), Fail> {
+    let mut staged = committed(rt.alloc(), &[&[(b"a", b"e", 5, true)]])?;
+    stage_each(&mut staged, &[(b"b", b"d", 6, true)])?;
+    staged.discard();
+    staged.commit();
+    assert!(rt; has_staged(&staged, &[(b"a", b"e", &[5])]));
+    Ok(())
+}
+
+fn is_setting(op: &RangeOp, start: &[u8], end: &[u8], wall: u64) -> bool {
+    op.start.bytes() == start
+        && op.end.bytes() == end
+        && op.ts.wall() == wall
+        && matches!(&op.set, Some(value) if value.as_slice().is_empty())
+}
+
+#[test]
+fn fragments_are_operations_again(rt: HostRuntime) -> Result<(), Fail> {
+    let list = changed(rt.alloc(), &OVER)?;
+    let ops = list.to_ops()?;
+    let expected: [(&[u8], &[u8], u64); 4] = [
+        (b"a", b"b", 5),
+        (b"b", b"d", 6),
+        (b"b", b"d", 5),
+        (b"d", b"e", 5),
+    ];
+    assert_eq!(rt; ops.len(), expected.len());
+    for (op, (start, end, wall)) in ops.iter().zip(&expected) {
+        assert!(rt; is_setting(op, start, end, *wall));
+    }
+    let mut staged = StagedFragments::new(rt.alloc());
+    for op in &ops {
+        if op.start.bytes().cmp(op.end.bytes()).is_lt() {
+            staged.stage(op)?;
+        }
+    }
+    staged.commit();
+    assert!(rt;
+        has_staged(
+            &staged,
+            &[
+                (b"a", b"b", &[5]),
+                (b"b", b"d", &[6, 5]),
+                (b"d", b"e", &[5])
+            ]
+        )
+    );
     Ok(())
 }

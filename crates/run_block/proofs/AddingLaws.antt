@@ -1,19 +1,19 @@
 -- Entries that are added one after another.
-use Rattle.std.proofs.Common.{◌≡◌, ℕ, ◌+◌, ◌^◌, ◌<◌, ◌≤◌, List, [], ◌∷◌, ◌++◌, length, map, get_or, take, refl, sym, ap, subst, ◌∙◌, append_assoc, arith}
+use Rattle.std.proofs.Common.{◌≡◌, ℕ, ◌+◌, ◌^◌, ◌<◌, ◌≤◌, List, [], ◌∷◌, ◌++◌, length, map, get_or, take, sym, ap, subst, ◌∙◌, append_assoc, arith}
 use Rattle.std.specs.Prelude.{All, Option}
 use Rattle.std.specs.List.{flat_map}
 use Rattle.std.proofs.lemmas.Grind.{flat_map-append}
 use Rattle.std.proofs.lemmas.List.{append-nil, length-append, length-map, take_all, take_more, get_or-map}
 use Rattle.std.proofs.lemmas.List.Concat.{flat_map-cons}
-use Rattle.std.proofs.lemmas.List.Elements.{All-nil, All-push}
+use Rattle.std.proofs.lemmas.List.Elements.{All-push}
 use Rattle.mvcc_key.specs.Encoded.{name_in}
 use Rattle.mvcc_key.specs.Points.{Point}
 use Rattle.mvcc_key.specs.views.SeenPoint.{point_of, points_of}
 use Rattle.mvcc_key.specs.declared.batch.PointOp.{PointOp}
 use Rattle.mvcc_key.proofs.KeyFormatLaws.{length-encoded_name_le}
-use Rattle.mem_table.specs.Entries.{IsStorable}
+use Rattle.mvcc_key.specs.Batches.{IsStorable}
 use Rattle.run_block.specs.RunFormat.{RangeOp, point_bytes, range_bytes}
-use Rattle.run_block.specs.views.Places.{point_in, range_in, points_in, ranges_in, run_in, IsIndex}
+use Rattle.run_block.specs.views.Places.{point_in, range_in, points_in, ranges_in, IsIndex}
 use Rattle.run_block.specs.views.Writing.{point_with, IsBehind}
 use Rattle.run_block.specs.declared.index.Index.{Index}
 use Rattle.run_block.specs.declared.place.PointPlace.{PointPlace}
@@ -61,8 +61,8 @@ behind-added n m old new place grown le all here =
     subst (λ (ps : List PointPlace). All (IsBehind n) ps) (sym grown) (All-push (IsBehind n) old place all (behind-fewer n m place le here))
 
 -- the length of a key that may be stored
-pub short_key : (op : PointOp) → IsStorable op → length op.key < 2 ^ 32
-short_key op h =
+pub short-key : (op : PointOp) → IsStorable op → length op.key < 2 ^ 32
+short-key op h =
     let spelled = ap length h.name.spelled in
     let few = length-encoded_name_le (name_in op.key) in
     let short = h.short in
@@ -106,16 +106,6 @@ pub record IsAdding (points : List Point) (done : ℕ) (from out : List ℕ) (in
   pub behind : All (IsBehind (length from)) index.points.items
   pub none : index.ranges.items ≡ []
 
--- before the first point
-pub IsAdding-first : (points : List Point) (from : List ℕ) (index : Index) → IsIndex from index → index.points.items ≡ [] → index.ranges.items ≡ [] → IsAdding points 0 from from index
-IsAdding-first points from index is no_points no_ranges = record {
-  items = sym (append-nil from);
-  index_is = is;
-  points_are = ap (points_in from) no_points;
-  behind = subst (λ (ps : List PointPlace). All (IsBehind (length from)) ps) (sym no_points) (All-nil (IsBehind (length from)));
-  none = no_ranges;
-}
-
 -- one point more
 pub IsAdding-more : (points : List Point) (done : ℕ) (from out next : List ℕ) (index more : Index) (p : Point) → IsAdding points done from out index
     → take (done + 1) points ≡ take done points ++ p ∷ [] → next ≡ out ++ point_bytes p → IsIndex next more
@@ -149,10 +139,6 @@ pub record IsAddingRanges (ranges : List RangeOp) (done : ℕ) (from out : List 
   pub points_are : points_in out index.points.items ≡ points_in from first.points.items
   pub ranges_are : ranges_in out index.ranges.items ≡ take done ranges
 
--- before the first range operation
-pub IsAddingRanges-first : (ranges : List RangeOp) (from : List ℕ) (index : Index) → IsIndex from index → index.ranges.items ≡ [] → IsAddingRanges ranges 0 from from index index
-IsAddingRanges-first ranges from index is none = record { items = sym (append-nil from); index_is = is; points_are = refl; ranges_are = ap (ranges_in from) none }
-
 -- one range operation more
 pub IsAddingRanges-more : (ranges : List RangeOp) (done : ℕ) (from out next : List ℕ) (first index more : Index) (r : RangeOp) → IsAddingRanges ranges done from out first index
     → take (done + 1) ranges ≡ take done ranges ++ r ∷ [] → next ≡ out ++ range_bytes r → IsIndex next more
@@ -165,19 +151,3 @@ IsAddingRanges-more ranges done from out next first index more r h grown items i
   points_are = points_are ∙ h.points_are;
   ranges_are = ranges_are ∙ ap (λ (rs : List RangeOp). rs ++ r ∷ []) h.ranges_are ∙ sym grown;
 }
-
--- behind the last range operation
-pub record AreRangesAdded (ranges : List RangeOp) (from out : List ℕ) (first index : Index) : Type 0 where
-  pub items : out ≡ from ++ flat_map range_bytes ranges
-  pub run : run_in out index ≡ record { points = points_in from first.points.items; ranges = ranges }
-
-pub IsAddingRanges-last : (ranges : List RangeOp) (done : ℕ) (from out : List ℕ) (first index : Index) → IsAddingRanges ranges done from out first index → length ranges ≤ done
-    → AreRangesAdded ranges from out first index
-IsAddingRanges-last ranges done from out first index h le =
-    let all : take done ranges ≡ ranges = take_all done ranges le in
-    let points_are = h.points_are in
-    let ranges_are = h.ranges_are ∙ all in
-    record {
-      items = h.items ∙ ap (λ (rs : List RangeOp). from ++ flat_map range_bytes rs) all;
-      run = λ i. record { points = points_are i; ranges = ranges_are i };
-    }

@@ -16,7 +16,7 @@ use Rattle.mvcc_key.proofs.OrderLaws.{name_cmp-total}
 use Rattle.mvcc_key.proofs.PointLaws.{rising_rest, rising-sorted}
 use Rattle.run_block.specs.RunFormat.{RangeOp, Run, is_next}
 use Rattle.run_block.specs.Runs.{IsStoredRange, IsRun, BytesAreRead, ReadBytesAreOfRun}
-use Rattle.mem_table.specs.Entries.{IsStoredPoint}
+use Rattle.mvcc_key.specs.Batches.{IsStoredPoint}
 use Rattle.run_block.proofs.RunLaws.{IsPointValue, AreRunPoints, IsRangeValue, AreRunRanges, IsReadable, IsSpelled-run_of, run_of-run_bytes}
 
 -- ---- from each to one after another
@@ -111,8 +111,8 @@ stored_ranges (r ∷ rs) h =
     (record { start = first.start; end = first.end; form = first.form; value = empty_value r.value first.value }, stored_ranges rs h.1)
 
 -- what was read one entry after another is a run
-pub run_of_readable : (r : Run) → IsReadable r → IsRun r
-run_of_readable r h = record {
+pub run_of-readable : (r : Run) → IsReadable r → IsRun r
+run_of-readable r h = record {
   points = All-from_recursion IsStoredPoint r.points (stored_points None r.points h.points);
   rising = rising-sorted r.points (sorted_points None r.points h.points);
   ranges = All-from_recursion IsStoredRange r.ranges (stored_ranges r.ranges h.ranges);
@@ -129,4 +129,4 @@ bytes_are_read r h = run_of-run_bytes r (readable r h)
 -- bytes that are read are those of the run that is read
 pub read_bytes_are_of_run : ReadBytesAreOfRun
 read_bytes_are_of_run bytes r fits e =
-    let spelled = IsSpelled-run_of bytes r fits e in record { spelled = spelled.bytes_are; run = run_of_readable r spelled.is_run }
+    let spelled = IsSpelled-run_of bytes r fits e in record { spelled = spelled.bytes_are; run = run_of-readable r spelled.is_run }

@@ -1,17 +1,15 @@
 -- Points behind a head are the same behind another.
-use Rattle.std.proofs.Common.{◌≡◌, ℕ, ◌+◌, ◌-◌, ◌^◌, ◌<◌, ◌≤◌, List, [], ◌∷◌, ◌++◌, length, take, drop, refl, sym, ap, subst, ◌∙◌, arith, vec_len}
+use Rattle.std.proofs.Common.{◌≡◌, ℕ, ◌+◌, ◌-◌, ◌≤◌, List, [], ◌∷◌, ◌++◌, length, take, drop, refl, sym, ap, subst, ◌∙◌, arith}
 use Rattle.std.specs.Prelude.{Option, Some, None, All}
 use Rattle.std.specs.Option.{ForSome, option_map}
 use Rattle.std.specs.List.{flat_map}
 use Rattle.std.proofs.Math.Seq.{drop-append-add}
-use Rattle.std.proofs.lemmas.List.{length-append, length-map, append-nil}
+use Rattle.std.proofs.lemmas.List.{length-append}
 use Rattle.std.proofs.lemmas.List.Elements.{All-head, All-tail, All-nil}
 use Rattle.mvcc_key.specs.Encoded.{IsName, name_in}
-use Rattle.mvcc_key.specs.views.Heads.{IsHead}
-use Rattle.mvcc_key.specs.Points.{Point, IsRising}
-use Rattle.mem_table.specs.Entries.{IsStoredPoint}
-use Rattle.run_block.specs.RunFormat.{Run, point_bytes, run_bytes}
-use Rattle.run_block.specs.Runs.{IsStoredRange, IsRun, IsRunOf}
+use Rattle.mvcc_key.specs.views.AbbreviatedKey.{IsAbbreviatedKey}
+use Rattle.mvcc_key.specs.Points.{Point}
+use Rattle.run_block.specs.RunFormat.{Run, point_bytes}
 use Rattle.run_block.specs.TimeSpan.{times_of, span_of}
 use Rattle.run_block.specs.views.Places.{piece_in, point_in, points_in, ranges_in, IsPlaced, IsRangePlaced, run_in, IsIndex}
 use Rattle.run_block.specs.views.Writing.{head_bytes, IsBehind}
@@ -52,7 +50,7 @@ placed-behind a b rest p same behind h =
       key = (let k = h.key in omega arith);
       value = λ v e. (let le = h.value v e in omega arith);
       name = subst IsName (sym (piece_in-behind a b rest p.key same behind.key)) h.name;
-      head = subst (λ (key : List ℕ). IsHead (name_in key).key p.head) (sym (piece_in-behind a b rest p.key same behind.key)) h.head;
+      abbreviated = subst (λ (key : List ℕ). IsAbbreviatedKey (name_in key).key p.abbreviated_key) (sym (piece_in-behind a b rest p.key same behind.key)) h.abbreviated;
     }
 
 -- points behind a head
@@ -82,41 +80,39 @@ index-behind a b rest index same behind none is = record {
 
 -- ---- the count in a head
 
--- a head and points are the bytes of a run with no range operation
-spelled-points : (count : ℕ) (ps : List Point) → length ps ≡ count → head_bytes count 0 ++ flat_map point_bytes ps ≡ run_bytes (record { points = ps; ranges = [] })
-unfolding run_bytes
-spelled-points count ps same =
-    sym (append-nil (head_bytes count 0 ++ flat_map point_bytes ps)) ∙ ap (λ (n : ℕ). (head_bytes n 0 ++ flat_map point_bytes ps) ++ []) (sym same)
-
--- a run without range operations
-run-points : (ps : List Point) → All IsStoredPoint ps → IsRising ps → length ps < 2 ^ 64 → IsRun (record { points = ps; ranges = [] })
-run-points ps stored rising few = record { points = stored; rising = rising; ranges = All-nil IsStoredRange; point_count = few; range_count = omega arith }
-
--- points behind a head that counts them
-pub record IsCounted (bytes next : List ℕ) (index : Index) : Type 0 where
+-- points behind a head that counts them, and so many range operations
+pub record IsCounted (next : List ℕ) (index : Index) (count ranges : ℕ) (ps : List Point) : Type 0 where
+  pub items : next ≡ head_bytes count ranges ++ flat_map point_bytes (points_in next index.points.items)
   pub index_is : IsIndex next index
-  pub run : run_in next index ≡ record { points = points_in bytes index.points.items; ranges = [] }
-  pub whole : IsRunOf next (run_in next index)
+  pub points_are : points_in next index.points.items ≡ ps
 
 -- they are counted in the place of none
-pub head-counted : (bytes next : List ℕ) (index : Index) (count : ℕ)
-    → bytes ≡ head_bytes 0 0 ++ flat_map point_bytes (points_in bytes index.points.items) → IsIndex bytes index → All (IsBehind 24) index.points.items → index.ranges.items ≡ []
-    → All IsStoredPoint (points_in bytes index.points.items) → IsRising (points_in bytes index.points.items)
-    → count ≡ vec_len index.points → next ≡ head_bytes count 0 ++ flat_map point_bytes (points_in bytes index.points.items) → IsCounted bytes next index
-head-counted bytes next index count was index_is behind none stored rising counts is =
+head-counted : (bytes next : List ℕ) (index : Index) (count ranges : ℕ) (ps : List Point) → bytes ≡ head_bytes 0 ranges ++ flat_map point_bytes ps
+    → points_in bytes index.points.items ≡ ps → IsIndex bytes index → All (IsBehind 24) index.points.items → index.ranges.items ≡ []
+    → next ≡ head_bytes count ranges ++ flat_map point_bytes ps → IsCounted next index count ranges ps
+head-counted bytes next index count ranges ps was points index_is behind none is =
     let places = index.points.items in
-    let ps : List Point = points_in bytes index.points.items in
     let body : List ℕ = flat_map point_bytes ps in
-    let old : List ℕ = head_bytes 0 0 in
-    let new : List ℕ = head_bytes count 0 in
+    let old : List ℕ = head_bytes 0 ranges in
+    let new : List ℕ = head_bytes count ranges in
     let index_was : IsIndex (old ++ body) index = subst (λ (v : List ℕ). IsIndex v index) was index_is in
-    let index_now : IsIndex next index = subst (λ (v : List ℕ). IsIndex v index) (sym is) (index-behind old new body index refl behind none index_was) in
-    let points : points_in next places ≡ ps =
-    ap (λ (v : List ℕ). points_in v places) is ∙ points_in-behind old new body places refl behind ∙ ap (λ (v : List ℕ). points_in v places) (sym was) in
-    let ranges : ranges_in next index.ranges.items ≡ [] = ap (ranges_in next) none in
-    let run : run_in next index ≡ record { points = ps; ranges = [] } = λ i. record { points = points i; ranges = ranges i } in
-    let sized : length ps ≡ length places = length-map places (point_in bytes) in
-    let few : length ps < 2 ^ 64 = omega arith in
-    let whole : IsRunOf next (record { points = ps; ranges = [] }) =
-    record { spelled = is ∙ spelled-points count ps (omega arith); run = run-points ps stored rising few } in
-    record { index_is = index_now; run = run; whole = subst (IsRunOf next) (sym run) whole }
+    let now : points_in next places ≡ ps =
+    ap (λ (v : List ℕ). points_in v places) is ∙ points_in-behind old new body places refl behind ∙ ap (λ (v : List ℕ). points_in v places) (sym was) ∙ points in
+    record {
+      items = is ∙ ap (λ (qs : List Point). head_bytes count ranges ++ flat_map point_bytes qs) (sym now);
+      index_is = subst (λ (v : List ℕ). IsIndex v index) (sym is) (index-behind old new body index refl behind none index_was);
+      points_are = now;
+    }
+
+-- the points that were put behind a head which counts none
+pub points-counted : (made headed added next : List ℕ) (index : Index) (len count ranges : ℕ) (ps : List Point) → made ≡ [] → headed ≡ made ++ head_bytes 0 ranges
+    → added ≡ headed ++ flat_map point_bytes ps → points_in added index.points.items ≡ ps → IsIndex added index → All (IsBehind (length headed)) index.points.items
+    → index.ranges.items ≡ [] → len ≡ count
+    → ((before ranges : ℕ) (body : List ℕ) → added ≡ head_bytes before ranges ++ body → next ≡ head_bytes len ranges ++ body) → IsCounted next index count ranges ps
+points-counted made headed added next index len count ranges ps none_made head body points index_is behind none counts set =
+    let head_is : headed ≡ head_bytes 0 ranges = head ∙ ap (λ (v : List ℕ). v ++ head_bytes 0 ranges) none_made in
+    let was : added ≡ head_bytes 0 ranges ++ flat_map point_bytes ps = body ∙ ap (λ (v : List ℕ). v ++ flat_map point_bytes ps) head_is in
+    let past : All (IsBehind 24) index.points.items = subst (λ (n : ℕ). All (IsBehind n) index.points.items) (ap length head_is) behind in
+    let is : next ≡ head_bytes count ranges ++ flat_map point_bytes ps =
+    set 0 ranges (flat_map point_bytes ps) was ∙ ap (λ (n : ℕ). head_bytes n ranges ++ flat_map point_bytes ps) counts in
+    head-counted added next index count ranges ps was points index_is past none is

@@ -1,16 +1,14 @@
 -- An index with one entry more.
-use Rattle.std.proofs.Common.{◌≡◌, ℕ, List, [], ◌∷◌, ◌++◌, map, refl, sym, ap, ◌∙◌, append_assoc}
+use Rattle.std.proofs.Common.{◌≡◌, ℕ, List, [], ◌∷◌, ◌++◌, refl, sym, ap, ◌∙◌}
 use Rattle.std.specs.Prelude.{Option, Some, None, option_to_list}
 use Rattle.std.specs.List.{filter_map}
 use Rattle.std.proofs.lemmas.List.{append-nil, map-append}
 use Rattle.std.proofs.lemmas.List.Elements.{filter_map-append, All-push}
 use Rattle.std.proofs.lemmas.List.Sums.{fold-append}
 use Rattle.mvcc_key.specs.Order.{Timestamp}
-use Rattle.mvcc_key.specs.views.Seen.{time_of}
 use Rattle.mvcc_key.specs.Points.{Point}
-use Rattle.run_block.specs.RunFormat.{RangeOp}
 use Rattle.run_block.specs.TimeSpan.{point_time, times_of, widened, span_of}
-use Rattle.run_block.specs.views.Places.{point_in, range_in, points_in, ranges_in, IsPlaced, IsRangePlaced, run_in, span_seen, IsIndex}
+use Rattle.run_block.specs.views.Places.{point_in, range_in, points_in, ranges_in, IsPlaced, run_in, span_seen, IsIndex}
 use Rattle.run_block.specs.declared.index.Index.{Index}
 use Rattle.run_block.specs.declared.place.PointPlace.{PointPlace}
 use Rattle.run_block.specs.declared.place.RangePlace.{RangePlace}
@@ -40,12 +38,6 @@ times_of-point ps p =
     ∙ ap (λ (xs : List Timestamp). filter_map point_time ps ++ xs) (sym (append-nil (filter_map point_time (p ∷ []))) ∙ filter_map-one point_time p [] ∙ append-nil (option_to_list (point_time p)))
     ∙ ap (λ (xs : List Timestamp). xs ++ option_to_list (point_time p)) (sym (append-nil (filter_map point_time ps)))
 
--- the timestamps with one range operation more
-times_of-range : (ps : List Point) (rs : List RangeOp) (r : RangeOp) → times_of (record { points = ps; ranges = rs ++ r ∷ [] }) ≡ times_of (record { points = ps; ranges = rs }) ++ r.ts ∷ []
-times_of-range ps rs r =
-    ap (λ (xs : List Timestamp). filter_map point_time ps ++ xs) (map-append (λ (o : RangeOp). o.ts) rs (r ∷ []))
-    ∙ sym (append_assoc (filter_map point_time ps) (map (λ (o : RangeOp). o.ts) rs) (r.ts ∷ []))
-
 -- the run with one point more
 pub points_in-push : (bytes : List ℕ) (places : List PointPlace) (p : PointPlace) → points_in bytes (places ++ p ∷ []) ≡ points_in bytes places ++ point_in bytes p ∷ []
 points_in-push bytes places p = map-append (point_in bytes) places (p ∷ [])
@@ -72,20 +64,4 @@ index-point bytes old new p is placed none same more span =
       ranges = rw same is.ranges;
       span = span ∙ ap (λ (s : Option (Timestamp × Timestamp)). span_with s (point_time (point_in bytes p))) is.span
           ∙ sym (span_of-more (times_of (run_in bytes old)) (point_time (point_in bytes p))) ∙ ap span_of (sym times);
-    }
-
--- an index with one range operation more
-pub index-range : (bytes : List ℕ) (old new : Index) (r : RangePlace) → IsIndex bytes old → IsRangePlaced bytes r
-    → new.points.items ≡ old.points.items → new.ranges.items ≡ old.ranges.items ++ r ∷ []
-    → span_seen new.span ≡ widened (span_seen old.span) (time_of r.ts) → IsIndex bytes new
-index-range bytes old new r is placed same more span =
-    let times : times_of (run_in bytes new) ≡ times_of (run_in bytes old) ++ time_of r.ts ∷ [] =
-    ap (λ (ps : List PointPlace). times_of (record { points = points_in bytes ps; ranges = ranges_in bytes new.ranges.items })) same
-    ∙ ap (λ (rs : List RangeOp). times_of (record { points = points_in bytes old.points.items; ranges = rs })) (ap (ranges_in bytes) more ∙ ranges_in-push bytes old.ranges.items r)
-    ∙ times_of-range (points_in bytes old.points.items) (ranges_in bytes old.ranges.items) (range_in bytes r) in
-    record {
-      points = rw same is.points;
-      ranges = rw more (All-push (IsRangePlaced bytes) old.ranges.items r is.ranges placed);
-      span = span ∙ ap (λ (s : Option (Timestamp × Timestamp)). widened s (time_of r.ts)) is.span
-          ∙ sym (span_of-more (times_of (run_in bytes old)) (Some (time_of r.ts))) ∙ ap span_of (sym times);
     }

@@ -7,6 +7,5 @@ pub mod ReadingLaws
 pub mod RunLaws
 pub mod ShownLaws
 pub mod SpanLaws
-pub mod TimeLaws
 pub mod WholeLaws
 pub mod WritingLaws

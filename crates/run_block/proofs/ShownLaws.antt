@@ -11,7 +11,7 @@ use Rattle.mvcc_key.specs.Encoded.{IsName, name_in, known_name}
 use Rattle.mvcc_key.specs.Points.{Point, point_at, key_at, value_at}
 use Rattle.mvcc_key.proofs.KeyFormatLaws.{name_of-encoded_name, length-encoded_name_le}
 use Rattle.mvcc_key.proofs.PointLaws.{point_at-next, point_at-none}
-use Rattle.mem_table.specs.Entries.{IsStoredPoint}
+use Rattle.mvcc_key.specs.Batches.{IsStoredPoint}
 use Rattle.run_block.specs.views.Writing.{point_with}
 
 -- a key and a value that can be added as the next point
@@ -57,8 +57,8 @@ shown points here place key value same stored some k v =
         shown-point points (place - 1) key value p stored (sym (point_at-next points (place - 1)) ∙ ap (point_at points) next ∙ at) key_is v
 
 -- where nothing is shown all points are done
-pub none_shown : (points here : List Point) (place : ℕ) → here ≡ points → 0 < place → None ≡ key_at here place → length points ≤ place - 1
-none_shown points here place same some k = by (point_at points place) refl (subst (λ (ps : List Point). None ≡ key_at ps place) same k)
+pub none-shown : (points here : List Point) (place : ℕ) → here ≡ points → 0 < place → None ≡ key_at here place → length points ≤ place - 1
+none-shown points here place same some k = by (point_at points place) refl (subst (λ (ps : List Point). None ≡ key_at ps place) same k)
   where
     by : (o : Option Point) → point_at points place ≡ o → None ≡ option_map (λ p. encoded_name p.name) o → length points ≤ place - 1
     by None at k = (let past = point_at-none points place at some in omega arith)
@@ -67,6 +67,3 @@ none_shown points here place same some k = by (point_at points place) refl (subs
 -- the next place
 pub next_place : (points here : List Point) (place next : ℕ) → here ≡ points → 0 < place → place - 1 < length points → next ≡ min (place + 1) (length here + 1) → next ≡ place + 1
 next_place points here place next same some within is = (let size = ap length same in omega arith)
-
-pub first_place : (points : List Point) (before next : ℕ) → before ≡ 0 → next ≡ min (before + 1) (length points + 1) → next ≡ 1
-first_place points before next start is = omega arith

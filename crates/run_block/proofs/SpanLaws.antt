@@ -118,8 +118,8 @@ none_contains [] t c e = (let lt = c.1 in omega arith)
 none_contains (u ∷ times) t c e = cc
 
 -- it has the least and the greatest of the timestamps, where there are any
-pub tells_span : (span : Option (Declared × Declared)) (times : List Timestamp) → span_seen span ≡ span_of times → TellsSpan span times
-tells_span span times is = by span (subst (IsSpanOf times) (sym is) (span-fold [] times None refl))
+pub tells-span : (span : Option (Declared × Declared)) (times : List Timestamp) → span_seen span ≡ span_of times → TellsSpan span times
+tells-span span times is = by span (subst (IsSpanOf times) (sym is) (span-fold [] times None refl))
   where
     by : (span : Option (Declared × Declared)) → IsSpanOf times (span_seen span) → TellsSpan span times
     by None h = record { none = (λ e. h, λ e. refl); least = tt; greatest = tt }

@@ -43,8 +43,8 @@ run_from_head : (bytes : List ℕ) (counts : (ℕ × ℕ) × Rest) (read : Resul
 run_from_head bytes counts read head behind = ap run_from (read_run-is bytes ∙ step (head_at (all_of bytes)) (λ (x : (ℕ × ℕ) × Rest). behind_head x) counts read head behind)
 
 -- the head cannot be read
-pub fault_of_head : (bytes : List ℕ) (first : Rest) (fault : RunFault) → first ≡ record { place = 0; bytes = bytes } → head_at first ≡ Err fault → run_of bytes ≡ Err fault
-fault_of_head bytes first fault all head =
+pub fault_of-head : (bytes : List ℕ) (first : Rest) (fault : RunFault) → first ≡ record { place = 0; bytes = bytes } → head_at first ≡ Err fault → run_of bytes ≡ Err fault
+fault_of-head bytes first fault all head =
     ap run_from (read_run-is bytes ∙ fault_after (head_at (all_of bytes)) (λ (x : (ℕ × ℕ) × Rest). behind_head x) fault (subst (λ (r : Rest). head_at r ≡ Err fault) all head))
 
 -- the head is read
@@ -56,23 +56,23 @@ pub IsHead-read : (bytes : List ℕ) (first rest : Rest) (points ranges : ℕ) �
 IsHead-read bytes first rest points ranges all head = record { head = subst (λ (r : Rest). head_at r ≡ Ok ((points, ranges), rest)) all head }
 
 -- a point cannot be read
-pub fault_of_points : (bytes : List ℕ) (points ranges : ℕ) (rest : Rest) (fault : RunFault) → IsHead bytes points ranges rest → points_at points None rest ≡ Err fault → run_of bytes ≡ Err fault
-fault_of_points bytes points ranges rest fault h e =
+pub fault_of-points : (bytes : List ℕ) (points ranges : ℕ) (rest : Rest) (fault : RunFault) → IsHead bytes points ranges rest → points_at points None rest ≡ Err fault → run_of bytes ≡ Err fault
+fault_of-points bytes points ranges rest fault h e =
     run_from_head bytes ((points, ranges), rest) (Err fault) h.head (fault_after (points_at points None rest) (λ (ps : List (Placed Point) × Rest). behind_points ranges ps) fault e)
 
 -- a range operation cannot be read
-pub fault_of_ranges : (bytes : List ℕ) (points ranges : ℕ) (rest behind : Rest) (ps : List Point) (fault : RunFault)
+pub fault_of-ranges : (bytes : List ℕ) (points ranges : ℕ) (rest behind : Rest) (ps : List Point) (fault : RunFault)
     → IsHead bytes points ranges rest → ArePointsAt points rest behind ps → ranges_at ranges behind ≡ Err fault → run_of bytes ≡ Err fault
-fault_of_ranges bytes points ranges rest behind ps fault h p e =
+fault_of-ranges bytes points ranges rest behind ps fault h p e =
     run_from_head bytes ((points, ranges), rest) (Err fault) h.head
     (step (points_at points None rest) (λ (ps : List (Placed Point) × Rest). behind_points ranges ps) (p.placed, behind) (Err fault) p.reading
     (fault_after (ranges_at ranges behind) (λ (rs : List (Placed RangeOp) × Rest). ended p.placed rs) fault e))
 
 -- bytes are left
-pub fault_of_end : (bytes : List ℕ) (points ranges : ℕ) (rest behind last : Rest) (ps : List Point) (rs : List RangeOp)
+pub fault_of-end : (bytes : List ℕ) (points ranges : ℕ) (rest behind last : Rest) (ps : List Point) (rs : List RangeOp)
     → IsHead bytes points ranges rest → ArePointsAt points rest behind ps → AreRangesAt ranges behind last rs → ltb 0 (length last.bytes) ≡ true
     → run_of bytes ≡ Err (fault_at FileKind.Trailing last.place)
-fault_of_end bytes points ranges rest behind last ps rs h p r e =
+fault_of-end bytes points ranges rest behind last ps rs h p r e =
     run_from_head bytes ((points, ranges), rest) (Err (fault_at FileKind.Trailing last.place)) h.head
     (step (points_at points None rest) (λ (ps : List (Placed Point) × Rest). behind_points ranges ps) (p.placed, behind) (Err (fault_at FileKind.Trailing last.place)) p.reading
     (step (ranges_at ranges behind) (λ (rs : List (Placed RangeOp) × Rest). ended p.placed rs) (r.placed, last) (Err (fault_at FileKind.Trailing last.place)) r.reading

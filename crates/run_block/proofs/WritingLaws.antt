@@ -1,11 +1,11 @@
 -- Bytes that are written behind others.
-use Rattle.std.proofs.Common.{◌≡◌, ℕ, ◌-◌, ◌≤◌, Bool, cond, List, [], ◌∷◌, ◌++◌, length, take, drop, refl, sym, ap, subst, ◌∙◌, append_assoc, arith}
-use Rattle.std.specs.Prelude.{Option, Some, None, Result, Ok, All, is_ok, if◌then◌else◌}
+use Rattle.std.proofs.Common.{◌≡◌, ℕ, ◌-◌, ◌≤◌, List, [], ◌∷◌, ◌++◌, length, take, drop, refl, sym, ap, subst, ◌∙◌, arith}
+use Rattle.std.specs.Prelude.{Option, Some, None, All}
 use Rattle.std.specs.Option.{ForSome, option_map}
 use Rattle.std.proofs.lemmas.List.{take-append-le, drop-append-le, length-append, length-drop}
 use Rattle.std.proofs.lemmas.List.Elements.{All-head, All-tail, All-weaker}
 use Rattle.mvcc_key.specs.Encoded.{IsName, name_in}
-use Rattle.mvcc_key.specs.views.Heads.{IsHead}
+use Rattle.mvcc_key.specs.views.AbbreviatedKey.{IsAbbreviatedKey}
 use Rattle.run_block.specs.RunFormat.{Run}
 use Rattle.run_block.specs.TimeSpan.{times_of, span_of}
 use Rattle.run_block.specs.views.Places.{piece_in, point_in, range_in, points_in, ranges_in, IsPlaced, IsRangePlaced, run_in, IsIndex}
@@ -13,13 +13,6 @@ use Rattle.run_block.specs.declared.index.Index.{Index}
 use Rattle.run_block.specs.declared.piece.Piece.{Piece}
 use Rattle.run_block.specs.declared.place.PointPlace.{PointPlace}
 use Rattle.run_block.specs.declared.place.RangePlace.{RangePlace}
-
--- bytes behind others, where there was room
-pub extended : {T E : Type 0} (r : Result T E) (x : T) (now old more : List ℕ) → now ≡ (if is_ok r then old ++ more else old) → r ≡ Ok x → now ≡ old ++ more
-extended r x now old more is ok = is ∙ ap (λ (b : Bool). cond b (old ++ more) old) (ap is_ok ok)
-
-pub regroup3 : (o a b c : List ℕ) → ((o ++ a) ++ b) ++ c ≡ o ++ ((a ++ b) ++ c)
-regroup3 o a b c = simp append_assoc
 
 -- ---- pieces of bytes with more behind them
 
@@ -46,7 +39,7 @@ placed-more bytes more p h = record {
   key = (let k = h.key in omega (arith, length-append bytes more));
   value = λ v e. (let le = h.value v e in omega (arith, length-append bytes more));
   name = subst IsName (sym (piece_in-more bytes more p.key h.key)) h.name;
-  head = subst (λ (key : List ℕ). IsHead (name_in key).key p.head) (sym (piece_in-more bytes more p.key h.key)) h.head;
+  abbreviated = subst (λ (key : List ℕ). IsAbbreviatedKey (name_in key).key p.abbreviated_key) (sym (piece_in-more bytes more p.key h.key)) h.abbreviated;
 }
 
 pub range_placed-more : (bytes more : List ℕ) (r : RangePlace) → IsRangePlaced bytes r → IsRangePlaced (bytes ++ more) r

@@ -1,25 +1,14 @@
 -- The least and the greatest timestamp of a run.
-use Rattle.std.specs.Prelude.{◌≡◌, ℕ, true, List, ◌++◌, length, take, drop, map, Option, Some, None, All, nat_lt, if◌then◌else◌, fold}
+use Rattle.std.specs.Prelude.{◌≡◌, ℕ, true, List, ◌++◌, map, Option, Some, None, All, if◌then◌else◌, fold}
 use Rattle.std.specs.List.{Contains, filter_map}
-use Rattle.std.specs.Int.{w32, w64, from_be_bytes}
-use Rattle.mvcc_key.specs.Order.{Timestamp, is_no_time, is_in_range, is_before, is_up_to, later}
+use Rattle.mvcc_key.specs.Order.{Timestamp, is_no_time, is_before, is_up_to, later}
 use Rattle.mvcc_key.specs.Points.{Point}
+use Rattle.intent_meta.specs.RecordTime.{time_in}
 use Rattle.run_block.specs.RunFormat.{Run}
-
--- bytes 24 to 35 of an intent record
-abbrev pub record_bytes : List ℕ → Timestamp
-record_bytes value = record { wall = from_be_bytes w64 (take 8 (drop 24 value)); logical = from_be_bytes w32 (take 4 (drop 32 value)) }
-
--- the timestamp of an intent record, where it has one in range
-abbrev pub record_time : List ℕ → Option Timestamp
-record_time value =
-    if nat_lt (length value) 36 then None
-    else if is_in_range (record_bytes value) then Some (record_bytes value)
-    else None
 
 -- the timestamp of what is set under a name
 abbrev pub set_time : Timestamp → List ℕ → Option Timestamp
-set_time ts value = if is_no_time ts then record_time value else Some ts
+set_time ts value = if is_no_time ts then time_in value else Some ts
 
 -- the same, and none where nothing is set
 abbrev pub value_time : Timestamp → Option (List ℕ) → Option Timestamp

@@ -4,7 +4,7 @@ ghost use Rattle.std.specs.Option.{ForSome, option_map};
 ghost use Rattle.mvcc_key.specs.Encoded.{IsName};
 ghost use Rattle.mvcc_key.specs.Limits.{max_stored_length};
 ghost use Rattle.run_block.specs.RunFormat.{point_bytes, range_bytes};
-ghost use Rattle.run_block.specs.views.Entries.{IsStorableRange};
+ghost use Rattle.mvcc_key.specs.Batches.{IsStorableRange};
 ghost use Rattle.run_block.specs.views.SeenRange.{range_of};
 ghost use Rattle.run_block.specs.views.Places.{IsIndex, points_in, ranges_in};
 ghost use Rattle.run_block.specs.views.Writing.{point_with, IsBehind};

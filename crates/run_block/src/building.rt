@@ -1,14 +1,15 @@
 //! From operations to a run.
-ghost use Rattle.std.specs.Prelude.{◌≡◌, ◌<◌, ◌+◌, ◌^◌, ◌++◌, [], Ok, length, All, IfOk, OnOk, IfSome, MatchOption, ◌≤◌};
+ghost use Rattle.std.specs.Prelude.{◌≡◌, ◌<◌, ◌+◌, ◌^◌, ◌++◌, [], Ok, length, vec_len, All, IfOk, OnOk, IfSome, MatchOption, ◌≤◌};
 ghost use Rattle.std.specs.List.{flat_map};
 ghost use Rattle.mvcc_key.specs.Encoded.{IsName};
+ghost use Rattle.mvcc_key.specs.Points.{IsRising};
 ghost use Rattle.mvcc_key.specs.views.SeenPoint.{point_of, points_of};
-ghost use Rattle.mem_table.specs.Entries.{AreEntries};
+ghost use Rattle.mvcc_key.specs.Batches.{AreEntries, IsStorableRange, IsStoredPoint};
 ghost use Rattle.run_block.specs.RunFormat.{value_part, point_bytes, range_bytes, run_bytes, run_of};
 ghost use Rattle.run_block.specs.Runs.{IsRun};
-ghost use Rattle.run_block.specs.views.Entries.{IsStorableRange};
 ghost use Rattle.run_block.specs.views.Places.{IsIndex, points_in, run_in};
 ghost use Rattle.run_block.specs.views.SeenRange.{range_of, ranges_of};
+ghost use Rattle.run_block.specs.views.Writing.{head_bytes};
 
 use crate::Run;
 use crate::adding::{add_point, add_range};
@@ -33,8 +34,28 @@ pub fn build(alloc: Global, points: &[PointOp], ranges: &[RangeOp]) -> Result<Ru
     let mut index = Index::with_room(alloc, points.len(), ranges.len())?;
     put_head(&mut bytes, points.len(), ranges.len())?;
     put_points(&mut bytes, points, &mut index)?;
+    run_with(bytes, index, ranges)
+}
+
+/// The run of points behind a head, which counts them and these range operations, and of the range operations, which are put
+/// behind them.
+pub(crate) fn run_with(
+    mut bytes: Vec<u8>,
+    mut index: Index,
+    ranges: &[RangeOp],
+) -> Result<Run, OutOfMemory>
+    requires bytes { bytes.items ≡ head_bytes (vec_len index.points) (length ranges.now) ++ flat_map point_bytes (points_in bytes.items index.points.items) }
+    requires index { IsIndex bytes.items index }
+    requires no_ranges { index.ranges.items ≡ [] }
+    requires stored { All IsStoredPoint (points_in bytes.items index.points.items) }
+    requires rising { IsRising (points_in bytes.items index.points.items) }
+    requires ranges { All IsStorableRange ranges.now }
+    ensures run { IfOk result (λ run. run ≡ record { points = points_in bytes.items index.points.items; ranges = ranges_of ranges.now }) }
+    ensures read { IfOk result (λ run. run_of (run_bytes run) ≡ Ok run) }
+    ensures whole { IfOk result IsRun }
+{
     put_ranges(&mut bytes, ranges, &mut index)?;
-    Ok(Run::of(bytes, index))
+    Ok(Run::new(bytes, index))
 }
 
 /// Puts the points, and takes up where they lie.
@@ -117,7 +138,7 @@ fn points_end(start: usize, points: &[PointOp]) -> Option<usize>
 }
 
 /// How many bytes there are up to the last range operation, where `start` stand before the first.
-fn ranges_end(start: usize, ranges: &[RangeOp]) -> Option<usize>
+pub(crate) fn ranges_end(start: usize, ranges: &[RangeOp]) -> Option<usize>
     ensures { IfSome result (λ n. n ≡ start + length (flat_map range_bytes (ranges_of ranges.now))) }
 {
     let mut end = start;

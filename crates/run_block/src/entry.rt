@@ -14,16 +14,9 @@ use crate::piece::Piece;
 use crate::place::{PointPlace, RangePlace};
 use crate::reader::Reader;
 use crate::{FileKind, RunFault};
-use mvcc_key::{Timestamp, cmp_encoded, decode_key, head_in};
-
-/// The bytes of a key, at most.
-const MAX_KEY_LEN: usize = 4096;
-
-/// The bytes of a bound of a range operation, at most.
-const MAX_BOUND_LEN: u32 = 4097;
-
-/// The bytes of a value, at most.
-const MAX_VALUE_LEN: u32 = 16_777_216;
+use mvcc_key::{
+    MAX_BOUND_LEN, MAX_KEY_LEN, MAX_STORED_LEN, Timestamp, abbreviated_key, cmp_encoded, decode_key,
+};
 
 /// The bytes are an encoded key that may be stored: one of 1 to 4,096 bytes.
 fn is_stored_key(bytes: &[u8]) -> bool
@@ -58,7 +51,7 @@ impl Reader<'_> {
     {
         let len = self.number32()?;
         let name = self.field(len as usize)?;
-        if !is_stored_key(name.of(self.bytes)) {
+        if !is_stored_key(name.slice(self.bytes)) {
             return Err(fault);
         }
         Ok(name)
@@ -71,7 +64,7 @@ impl Reader<'_> {
         ensures { result ≡ words.is_next (name_before self.now.bytes.now before) (name_in (piece_in self.now.bytes.now key)) }
     {
         match before {
-            Some(before) => cmp_encoded(before.of(self.bytes), key.of(self.bytes)).is_lt(),
+            Some(before) => cmp_encoded(before.slice(self.bytes), key.slice(self.bytes)).is_lt(),
             None => true,
         }
     }
@@ -85,7 +78,7 @@ impl Reader<'_> {
         if !set {
             return Ok(None);
         }
-        let value = self.counted(MAX_VALUE_LEN, fault)?;
+        let value = self.counted(MAX_STORED_LEN, fault)?;
         Ok(Some(value))
     }
 
@@ -106,8 +99,12 @@ impl Reader<'_> {
             return Err(bad_order);
         }
         let value = self.value(set, bad_value)?;
-        let head = head_in(key.of(self.bytes));
-        Ok(PointPlace { key, value, head })
+        let abbreviated_key = abbreviated_key(key.slice(self.bytes));
+        Ok(PointPlace {
+            key,
+            value,
+            abbreviated_key,
+        })
     }
 
     /// A range operation, which is judged when it is whole, but for its kind and the lengths of its bounds.
@@ -123,7 +120,7 @@ impl Reader<'_> {
         let end = self.counted(MAX_BOUND_LEN, fault)?;
         let wall = self.number64()?;
         let logical = self.number32()?;
-        let is_span = start.of(self.bytes).cmp(end.of(self.bytes)).is_lt();
+        let is_span = start.slice(self.bytes).cmp(end.slice(self.bytes)).is_lt();
         match range_time(wall, logical) {
             Some(ts) if is_span => Ok(RangePlace {
                 start,

@@ -8,7 +8,6 @@ mod entry;
 mod fault;
 mod index;
 mod laws;
-mod numbers;
 mod parsing;
 mod piece;
 mod place;

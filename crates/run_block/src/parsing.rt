@@ -29,7 +29,7 @@ pub fn parse(alloc: Global, bytes: &[u8]) -> Result<Run, ParseFault>
     let Ok(bytes) = Vec::from_slice(alloc, bytes) else {
         return Err(ParseFault::OutOfMemory);
     };
-    Ok(Run::of(bytes, index))
+    Ok(Run::new(bytes, index))
 }
 
 /// Where the entries of a run lie.
@@ -92,7 +92,7 @@ impl Reader<'_> {
     {
         let bad_magic = self.fault(FileKind::Magic);
         let magic = self.field(8)?;
-        if magic.of(self.bytes) != MAGIC.as_slice() {
+        if magic.slice(self.bytes) != MAGIC.as_slice() {
             return Err(bad_magic);
         }
         let points = self.number64()?;

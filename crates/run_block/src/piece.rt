@@ -11,7 +11,7 @@ pub(crate) struct Piece {
 
 impl Piece {
     /// The piece of these bytes.
-    pub(crate) fn of(self, bytes: &[u8]) -> &[u8]
+    pub(crate) fn slice(self, bytes: &[u8]) -> &[u8]
         requires { self.end ≤ length bytes.now }
         ensures { result.now ≡ slice_range bytes.now self.start self.end }
     {

@@ -2,13 +2,13 @@
 use crate::piece::Piece;
 use mvcc_key::Timestamp;
 
-/// Where a point lies: its encoded key, and its value where it is set. The head of its key lies beside them, so that a seek mostly
+/// Where a point lies: its encoded key, and its value where it is set. The abbreviated key lies beside them, so that a seek mostly
 /// reads places alone.
 #[derive(Clone, Copy, Debug)]
 pub(crate) struct PointPlace {
     pub(crate) key: Piece,
     pub(crate) value: Option<Piece>,
-    pub(crate) head: u64,
+    pub(crate) abbreviated_key: u64,
 }
 
 /// Where a range operation lies: its bounds. It sets, or removes.

@@ -29,17 +29,17 @@ impl SortedPairs for RunPoints {
 
     fn key(&self, index: usize) -> &[u8] {
         let place = self.places[index];
-        place.key.of(self.bytes.as_slice())
+        place.key.slice(self.bytes.as_slice())
     }
 
-    fn head(&self, index: usize) -> u64 {
-        self.places[index].head
+    fn abbreviated_key(&self, index: usize) -> u64 {
+        self.places[index].abbreviated_key
     }
 
     fn value(&self, index: usize) -> Option<&[u8]> {
         let place = self.places[index];
         match place.value {
-            Some(value) => Some(value.of(self.bytes.as_slice())),
+            Some(value) => Some(value.slice(self.bytes.as_slice())),
             None => None,
         }
     }

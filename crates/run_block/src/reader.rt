@@ -4,9 +4,9 @@ ghost use Rattle.std.specs.Int.{w32, w64};
 ghost use Rattle.run_block.specs.RunFormat as words;
 ghost use Rattle.run_block.specs.views.Seen.{fault_of};
 
-use crate::numbers::{read_u32, read_u64};
 use crate::piece::Piece;
 use crate::{FileKind, RunFault};
+use mvcc_key::numbers::{read_u32, read_u64};
 
 /// Bytes, and the place in them that is read next.
 #[derive(Drop)]
@@ -61,7 +61,7 @@ impl<'a> Reader<'a> {
         ensures same { self.new.bytes.now ≡ self.old.bytes.now }
     {
         let field = self.field(4)?;
-        Ok(read_u32(field.of(self.bytes)))
+        Ok(read_u32(field.slice(self.bytes)))
     }
 
     /// A number of 64 bits.
@@ -70,7 +70,7 @@ impl<'a> Reader<'a> {
         ensures same { self.new.bytes.now ≡ self.old.bytes.now }
     {
         let field = self.field(8)?;
-        Ok(read_u64(field.of(self.bytes)))
+        Ok(read_u64(field.slice(self.bytes)))
     }
 
     /// The kind of an entry, by which it sets or not. It is judged when it is read.
@@ -87,15 +87,15 @@ impl<'a> Reader<'a> {
     }
 
     /// Bytes with their length before them. The length is judged before they are read.
-    pub(crate) fn counted(&mut self, limit: u32, fault: RunFault) -> Result<Piece, RunFault>
+    pub(crate) fn counted(&mut self, limit: usize, fault: RunFault) -> Result<Piece, RunFault>
         ensures reading { Reads (piece_in self.old.bytes.now) result (words.counted limit (fault_of fault) (rest_of self.old)) (rest_of self.new) }
         ensures same { self.new.bytes.now ≡ self.old.bytes.now }
         ensures within { IfOk result (λ p. p.end ≤ length self.old.bytes.now) }
     {
-        let len = self.number32()?;
+        let len = self.number32()? as usize;
         if len > limit {
             return Err(fault);
         }
-        self.field(len as usize)
+        self.field(len)
     }
 }

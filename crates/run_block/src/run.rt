@@ -2,7 +2,7 @@
 ghost use Rattle.std.specs.Prelude.{ℕ, ◌≡◌, ◌↔◌, ◌+◌, [], length, IsTrue, IsNone, IfSome, All, slice_get};
 ghost use Rattle.std.specs.Option.{option_map};
 ghost use Rattle.mvcc_key.specs.views.Seen.{time_of};
-ghost use Rattle.mem_table.specs.Entries.{IsStoredPoint};
+ghost use Rattle.mvcc_key.specs.Batches.{IsStoredPoint};
 ghost use Rattle.run_block.specs.RunFormat as words;
 ghost use Rattle.run_block.specs.Runs.{IsRun, IsRunOf};
 ghost use Rattle.run_block.specs.views.SeenRange.{lent_range};
@@ -42,7 +42,7 @@ impl Model for Run {
 
 impl Run {
     /// The run of these bytes, whose entries lie where the index says.
-    pub(crate) fn of(bytes: Vec<u8>, index: Index) -> Run
+    pub(crate) fn new(bytes: Vec<u8>, index: Index) -> Run
         requires index { IsIndex bytes.items index }
         requires run { IsRunOf bytes.items (run_in bytes.items index) }
         ensures { result ≡ run_in bytes.items index }
@@ -105,8 +105,8 @@ impl Run {
         let place = *self.ranges.get(index as usize)?;
         let bytes = self.points.bytes.as_slice();
         Some(RangeOpRef {
-            start: place.start.of(bytes),
-            end: place.end.of(bytes),
+            start: place.start.slice(bytes),
+            end: place.end.slice(bytes),
             ts: place.ts,
             set: if place.set { Some(&[]) } else { None },
         })

@@ -1,11 +1,12 @@
-ghost use Rattle.std.specs.Prelude.{◌≡◌, ◌<◌};
-
-mod rising;
+ghost use Rattle.std.specs.Prelude.{◌≡◌, ◌<◌, IfOk};
+ghost use Rattle.mvcc_key.specs.Batches.{IsBatch};
 
 use super::*;
 use mem_table::MemTable;
-use mvcc_key::{Bytes, Cursor, Looks, OutOfMemory, PointOp, Timestamp, encode_key};
-use rising::Rising;
+use mvcc_key::{
+    Batch, BatchBuilder, Bytes, Cursor, Key, Looks, OutOfMemory, PointOp, RangeOp, Timestamp,
+    encode_key,
+};
 use std::alloc::Global;
 use std::marker::Brand;
 use std::sync::ledger::{Blank, Ledger};
@@ -205,6 +206,11 @@ const BUILT: &[u8; 154] = b"MVCCRUN1\0\0\0\0\0\0\0\x03\0\0\0\0\0\0\0\x02\
     \x01\0\0\0\x01b\0\0\0\x01d\0\0\0\0\0\0\0\x04\0\0\0\x01\
     \0\0\0\0\x01a\0\0\0\x01b\0\0\0\0\0\0\0\x03\0\0\0\0";
 
+/// No point: a tombstone over `a` to `e` is set at 5 seconds, and one over `b` to `d` removed at 6.
+const OPERATIONS: &[u8; 70] = b"MVCCRUN1\0\0\0\0\0\0\0\0\0\0\0\0\0\0\0\x02\
+    \x01\0\0\0\x01a\0\0\0\x01e\0\0\0\x01\x2a\x05\xf2\0\0\0\0\0\
+    \0\0\0\0\x01b\0\0\0\x01d\0\0\0\x01\x65\xa0\xbc\0\0\0\0\0";
+
 /// No entry.
 const NONE: &[u8; 24] = b"MVCCRUN1\0\0\0\0\0\0\0\0\0\0\0\0\0\0\0\0";
 
@@ -269,23 +275,81 @@ fn is_built(run: &Run) -> bool {
     run.bytes() == BUILT.as_slice() && set && removed && times
 }
 
-/// The record of `a`, a clear of `a` at 9, and `b` at 5.
-fn three_points(alloc: Global) -> Result<Rising, OutOfMemory> {
-    let mut points = Rising::new(alloc);
-    let _ = points.push(point_op(alloc, b"a", 0, Some(RECORD))?)?;
-    let _ = points.push(point_op(alloc, b"a", 9, None)?)?;
-    let _ = points.push(point_op(alloc, b"b", 5, Some(b"x"))?)?;
-    Ok(points)
+/// A start, an end, a wall time and a counter, and whether a tombstone is set over them, or removed.
+type Range = (&'static [u8], &'static [u8], (u64, u32), bool);
+
+/// The range operations behind the three points.
+const BUILT_RANGES: [Range; 2] = [(b"b", b"d", (4, 1), true), (b"a", b"b", (3, 0), false)];
+
+/// Those of no point.
+const ALONE: [Range; 2] = [
+    (b"a", b"e", (5_000_000_000, 0), true),
+    (b"b", b"d", (6_000_000_000, 0), false),
+];
+
+fn range_op(alloc: Global, range: Range) -> Result<RangeOp, OutOfMemory> {
+    let (start, end, (wall, logical), is_set) = range;
+    Ok(RangeOp {
+        start: Key::copy(alloc, start)?,
+        end: Key::copy(alloc, end)?,
+        ts: Timestamp::new(wall, logical).unwrap_or(Timestamp::NONE),
+        set: if is_set {
+            Some(Bytes::new(alloc))
+        } else {
+            None
+        },
+    })
+}
+
+fn push_ranges(
+    alloc: Global,
+    batch: &mut BatchBuilder,
+    ranges: &[Range],
+) -> Result<(), OutOfMemory> {
+    for range in ranges {
+        let _ = batch.push_range(range_op(alloc, *range)?)?;
+    }
+    Ok(())
+}
+
+/// Range operations alone.
+fn ranges_alone(alloc: Global, ranges: &[Range]) -> Result<Batch, OutOfMemory>
+    ensures { IfOk result IsBatch }
+{
+    let mut batch = BatchBuilder::new(alloc);
+    push_ranges(alloc, &mut batch, ranges)?;
+    Ok(batch.into_batch())
+}
+
+/// The record of `a`, a clear of `a` at 9, and `b` at 5, with range operations.
+fn three_points(alloc: Global, ranges: &[Range]) -> Result<Batch, OutOfMemory>
+    ensures { IfOk result IsBatch }
+{
+    let mut batch = BatchBuilder::new(alloc);
+    let _ = batch.push_point(point_op(alloc, b"a", 0, Some(RECORD))?)?;
+    let _ = batch.push_point(point_op(alloc, b"a", 9, None)?)?;
+    let _ = batch.push_point(point_op(alloc, b"b", 5, Some(b"x"))?)?;
+    push_ranges(alloc, &mut batch, ranges)?;
+    Ok(batch.into_batch())
 }
 
 #[test]
 fn what_is_built_is_read_again(rt: HostRuntime) -> Result<(), Fail> {
     let alloc = rt.alloc();
-    let run = build(alloc, three_points(alloc)?.as_slice(), &[])?;
+    let batch = three_points(alloc, &[])?;
+    let run = build(alloc, batch.points.as_slice(), batch.ranges.as_slice())?;
     assert_eq!(rt; run.bytes(), POINTS.as_slice());
     assert!(rt; walks::<Brand>(&run, &STATES, Blank::new(1)));
     assert!(rt; run.range_op(0).is_none());
     assert_eq!(rt; parse(alloc, run.bytes())?.len(), 3);
+    Ok(())
+}
+
+#[test]
+fn operations_are_built_behind_points(rt: HostRuntime) -> Result<(), Fail> {
+    let batch = three_points(rt.alloc(), &BUILT_RANGES)?;
+    let run = build(rt.alloc(), batch.points.as_slice(), batch.ranges.as_slice())?;
+    assert!(rt; is_built(&run));
     Ok(())
 }
 
@@ -294,18 +358,17 @@ const NO_ROOM: Room = Room {
     bytes: 0,
 };
 
-/// Whether the points of a table are collected to the run that is built of them, which has the bytes of the three.
+/// Whether a table is collected to the run that is built of what it holds.
 fn is_collected(alloc: Global, table: &MemTable, room: Room) -> Result<bool, OutOfMemory> {
-    let run = collect(alloc, &mut table.cursor(), room)?;
-    let times = run.time_span().map(|span| (span.0.wall(), span.1.wall()));
-    Ok(run.bytes() == POINTS.as_slice() && times == Some((2, 5)))
+    let run = collect(alloc, &mut table.cursor(), table.range_ops(), room)?;
+    Ok(is_built(&run))
 }
 
 #[test]
 fn a_table_is_collected(rt: HostRuntime) -> Result<(), Fail> {
     let alloc = rt.alloc();
     let mut table = MemTable::new(alloc);
-    table.apply(three_points(alloc)?.into_batch(alloc))?;
+    table.apply(three_points(alloc, &BUILT_RANGES)?)?;
     for (points, bytes) in [(0, 0), (1, 7), (3, 84), (100, 1000)] {
         let room = Room { points, bytes };
         assert!(rt;
@@ -319,16 +382,46 @@ fn a_table_is_collected(rt: HostRuntime) -> Result<(), Fail> {
     Ok(())
 }
 
+/// Whether the run has no point, and the two range operations that stand alone.
+fn has_operations_alone(run: &Run) -> bool {
+    let times = match run.time_span() {
+        Some((least, greatest)) => {
+            least.wall() == 5_000_000_000 && greatest.wall() == 6_000_000_000
+        }
+        None => false,
+    };
+    let counts = (run.len(), run.range_len(), run.is_empty()) == (0, 2, false);
+    run.bytes() == OPERATIONS.as_slice() && counts && times
+}
+
+#[test]
+fn a_run_has_operations_alone(rt: HostRuntime) -> Result<(), Fail> {
+    let batch = ranges_alone(rt.alloc(), &ALONE)?;
+    let run = build(rt.alloc(), &[], batch.ranges.as_slice())?;
+    assert!(rt; has_operations_alone(&run));
+    assert!(rt; has_operations_alone(&parse(rt.alloc(), OPERATIONS)?));
+    Ok(())
+}
+
+#[test]
+fn operations_alone_are_collected(rt: HostRuntime) -> Result<(), Fail> {
+    let mut table = MemTable::new(rt.alloc());
+    table.apply(ranges_alone(rt.alloc(), &ALONE)?)?;
+    let run = collect(rt.alloc(), &mut table.cursor(), table.range_ops(), NO_ROOM)?;
+    assert!(rt; has_operations_alone(&run));
+    Ok(())
+}
+
 #[test]
 fn the_points_of_a_run_are_collected_again(rt: HostRuntime) -> Result<(), Fail> {
     let alloc = rt.alloc();
     let built = parse(alloc, BUILT)?;
-    let run = collect(alloc, &mut built.cursor(), NO_ROOM)?;
+    let run = collect(alloc, &mut built.cursor(), &[], NO_ROOM)?;
     assert_eq!(rt; run.bytes(), POINTS.as_slice());
     assert!(rt; walks::<Brand>(&run, &STATES, Blank::new(1)));
     let empty = parse(alloc, NONE)?;
     assert_eq!(rt;
-        collect(alloc, &mut empty.cursor(), NO_ROOM)?.bytes(),
+        collect(alloc, &mut empty.cursor(), &[], NO_ROOM)?.bytes(),
         NONE.as_slice()
     );
     Ok(())

@@ -4,40 +4,23 @@ ghost use Rattle.std.specs.Option.{option_map};
 ghost use Rattle.mvcc_key.specs.KeyFormat.{name_of};
 ghost use Rattle.mvcc_key.specs.Encoded.{IsName, name_in};
 ghost use Rattle.mvcc_key.specs.views.Seen.{time_of};
-ghost use Rattle.run_block.specs.TimeSpan.{record_time, set_time, point_time, widened};
+ghost use Rattle.run_block.specs.TimeSpan.{set_time, point_time, widened};
 ghost use Rattle.run_block.specs.views.Places.{point_in, IsPlaced, span_seen};
 
-use crate::numbers::{read_u32, read_u64};
 use crate::place::PointPlace;
-use mvcc_key::{Timestamp, decode_key};
-
-/// Where the timestamp of an intent record begins: behind the transaction's id, its epoch and the sequence.
-const RECORD_TIME: usize = 24;
-
-/// How many bytes the timestamp of an intent record has.
-const RECORD_TIME_LEN: usize = 12;
-
-/// The timestamp of an intent record, where it has one in range.
-fn time_of_record(value: &[u8]) -> Option<Timestamp>
-    ensures { option_map time_of result ≡ record_time value.now }
-{
-    if value.len() < RECORD_TIME + RECORD_TIME_LEN {
-        return None;
-    }
-    Timestamp::new(
-        read_u64(&value[RECORD_TIME..]),
-        read_u32(&value[RECORD_TIME + 8..]),
-    )
-}
+use intent_meta::record_time;
+use mvcc_key::{Timestamp, read_key};
 
 /// The timestamp of what is set under an encoded key.
 fn time_of_set(key: &[u8], value: &[u8]) -> Option<Timestamp>
     requires { IsName key.now }
     ensures { option_map time_of result ≡ set_time (name_in key.now).ts value.now }
 {
-    match decode_key(key) {
-        Ok(name) if name.ts != Timestamp::NONE => Some(name.ts),
-        _ => time_of_record(value),
+    let name = read_key(key);
+    if name.ts == Timestamp::NONE {
+        record_time(value)
+    } else {
+        Some(name.ts)
     }
 }
 
@@ -47,7 +30,7 @@ pub(crate) fn time_of_point(bytes: &[u8], point: PointPlace) -> Option<Timestamp
     ensures { option_map time_of result ≡ point_time (point_in bytes.now point) }
 {
     match point.value {
-        Some(value) => time_of_set(point.key.of(bytes), value.of(bytes)),
+        Some(value) => time_of_set(point.key.slice(bytes), value.slice(bytes)),
         None => None,
     }
 }

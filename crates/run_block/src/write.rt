@@ -4,15 +4,15 @@ ghost use Rattle.std.specs.Option.{ForSome, option_map};
 ghost use Rattle.mvcc_key.specs.Encoded.{IsName};
 ghost use Rattle.mvcc_key.specs.Limits.{max_stored_length};
 ghost use Rattle.run_block.specs.RunFormat.{with_length, value_part, point_bytes, range_bytes, kind_byte};
-ghost use Rattle.run_block.specs.views.Entries.{IsStorableRange};
+ghost use Rattle.mvcc_key.specs.Batches.{IsStorableRange};
 ghost use Rattle.run_block.specs.views.SeenRange.{range_of};
 ghost use Rattle.run_block.specs.views.Places.{piece_in, point_in, range_in, IsPlaced, IsRangePlaced};
 ghost use Rattle.run_block.specs.views.Writing.{head_bytes, point_with, IsBehind};
 
-use crate::numbers::{put_u32, put_u64, set_u64};
 use crate::piece::Piece;
 use crate::place::{PointPlace, RangePlace};
-use mvcc_key::{Bytes, OutOfMemory, RangeOp, head_in};
+use mvcc_key::numbers::{append_u32, append_u64, set_u64};
+use mvcc_key::{Bytes, OutOfMemory, RangeOp, abbreviated_key};
 
 /// How a run begins.
 pub(crate) const MAGIC: &[u8; 8] = b"MVCCRUN1";
@@ -28,8 +28,8 @@ pub(crate) fn put_head(out: &mut Vec<u8>, points: usize, ranges: usize) -> Resul
     ensures { OnOk result (out.new.items ≡ out.old.items ++ head_bytes points ranges) }
 {
     out.extend_from_slice(MAGIC)?;
-    put_u64(out, points as u64)?;
-    put_u64(out, ranges as u64)?;
+    append_u64(out, points as u64)?;
+    append_u64(out, ranges as u64)?;
     Ok(())
 }
 
@@ -49,7 +49,7 @@ fn put_counted(out: &mut Vec<u8>, bytes: &[u8]) -> Result<Piece, OutOfMemory>
     ensures behind { IfOk result (λ p. length out.old.items ≤ p.start) }
     ensures end { IfOk result (λ p. p.end ≡ length out.new.items) }
 {
-    put_u32(out, bytes.len() as u32)?;
+    append_u32(out, bytes.len() as u32)?;
     let start = out.len();
     out.extend_from_slice(bytes)?;
     Ok(Piece {
@@ -107,11 +107,15 @@ pub(crate) fn put_point(
     ensures behind { IfOk result (IsBehind (length out.old.items)) }
     ensures point { IfOk result (λ p. point_in out.new.items p ≡ point_with key.now (option_map (λ v. v.now) value.entry)) }
 {
-    let head = head_in(key);
+    let abbreviated_key = abbreviated_key(key);
     put_kind(out, value)?;
     let key = put_counted(out, key)?;
     let value = put_value(out, value)?;
-    Ok(PointPlace { key, value, head })
+    Ok(PointPlace {
+        key,
+        value,
+        abbreviated_key,
+    })
 }
 
 /// Puts a range operation, and tells where it lies.
@@ -124,8 +128,8 @@ pub(crate) fn put_range(out: &mut Vec<u8>, op: &RangeOp) -> Result<RangePlace, O
     put_kind(out, lent(&op.set))?;
     let start = put_counted(out, op.start.bytes())?;
     let end = put_counted(out, op.end.bytes())?;
-    put_u64(out, op.ts.wall())?;
-    put_u32(out, op.ts.logical())?;
+    append_u64(out, op.ts.wall())?;
+    append_u32(out, op.ts.logical())?;
     Ok(RangePlace {
         start,
         end,

@@ -7,7 +7,7 @@ use Rattle.std.proofs.Common.{refl, sym, ap, ◌∙◌, subst, append_assoc, app
 use Rattle.std.proofs.Math.Seq.{take-append_seam}
 use Rattle.io_edge.specs.Writing.{AppendsBeginning}
 use Rattle.mvcc_engine.specs.Step.{State, first_state}
-use Rattle.script_run.specs.CommandLine.{Options}
+use Rattle.script_text.specs.CommandLine.{Options}
 use Rattle.script_run.specs.Output.{Carried, carry_out, text_of, lines, output_from, script_output}
 use Rattle.script_run.specs.views.Gathering.{Moves, Gathers, GathersBeginning}
 
@@ -63,15 +63,6 @@ all_gathered options held held' text script rest state n so_far none =
       whole = sym (append-nil (so_far.written ++ text)) ∙ ap (λ l. (so_far.written ++ text) ++ l) (sym nothing) ∙ so_far.whole;
     }
 
--- a line that finds no memory leaves what was gathered
-pub stopped_short : (held held' : Option (List ℕ)) (text text' coming all : List ℕ) → IsUnderWay held held' text coming all → text' ≡ text → GathersBeginning held held' text' all
-stopped_short held held' text text' coming all so_far same = record {
-  written = so_far.written;
-  rest = coming;
-  appended = so_far.appended;
-  whole = rw same so_far.whole;
-}
-
 -- what is written of a text that was gathered, behind what was written before
 written_behind : (held held' held'' : Option (List ℕ)) (written text rest all : List ℕ) → Appends held held' written → (written ++ text) ++ rest ≡ all
     → AppendsBeginning held' held'' text → AppendsBeginning held held'' all
@@ -97,10 +88,6 @@ stopped_in held held' held'' text text' coming all shown so_far grown failed =
     written_behind held held' held'' w text' coming all so_far.appended whole failed
 
 -- what is gathered is written at the end
-pub written_all : (held held' held'' : Option (List ℕ)) (text all : List ℕ) → Gathers held held' text all → Appends held' held'' text → Appends held held'' all
-written_all held held' held'' text all gathered more =
-    subst (Appends held held'') gathered.whole (Appends-trans held held' held'' gathered.written text gathered.appended more)
-
 pub written_part : (held held' held'' : Option (List ℕ)) (text all : List ℕ) → Gathers held held' text all → AppendsBeginning held' held'' text → AppendsBeginning held held'' all
 written_part held held' held'' text all gathered failed =
     written_behind held held' held'' gathered.written text [] all gathered.appended (append-nil (gathered.written ++ text) ∙ gathered.whole) failed

@@ -1,19 +1,18 @@
 -- The lines of a layout, one after another.
-use Rattle.std.specs.Prelude.{◌≡◌, ℕ, ◌+◌, ◌<◌, ◌≤◌, List, [], ◌∷◌, ◌++◌, length, map, take, Result, OnOk}
+use Rattle.std.specs.Prelude.{◌≡◌, ℕ, ◌+◌, ◌<◌, ◌≤◌, List, [], ◌∷◌, ◌++◌, length, map, take}
 use Rattle.std.specs.List.{flat_map}
 use Rattle.std.proofs.Common.{refl, sym, ap, ◌∙◌, append-nil, get_or, arith}
 use Rattle.std.proofs.lemmas.List.{take_more, map-append, length-map, length-take-le}
-use Rattle.script_run.proofs.TextLaws.{two_pieces}
+use Rattle.script_text.proofs.TextLaws.{two_pieces}
 use Rattle.std.proofs.lemmas.Grind.{flat_map-append}
-use Rattle.std.proofs.lemmas.Result.{on_ok_weaker}
 use Rattle.lsm_store.specs.Parts as parts
 use Rattle.lsm_store.specs.Parts.{part_shape, layout}
 use Rattle.lsm_store.specs.views.Seen.{seen_shape}
 use Rattle.lsm_store.specs.declared.shape.PartShape.{PartShape}
-use Rattle.script_run.specs.Text.{Answer, LayoutLine, show}
+use Rattle.script_text.specs.Text.{Answer, LayoutLine, show}
 use Rattle.mvcc_engine.specs.Step as engine
 use Rattle.mvcc_engine.specs.Step.{State, step}
-use Rattle.script_run.specs.Grammar.{Layout}
+use Rattle.script_text.specs.Grammar.{Layout}
 use Rattle.script_run.specs.views.Answered.{IsAnswered}
 use Rattle.script_run.specs.Output.{laid_out, layout_answers, performed}
 use Rattle.script_run.proofs.StepLaws.{taken_all, step-layout}
@@ -46,12 +45,11 @@ layout_text-more old mid new shapes i other within so_far one =
     two_pieces old mid new (flat_map show (layout_answers 0 front)) (show (line i (seen_shape shape))) so_far one ∙ ap (λ t. old ++ t) (sym shown)
 
 -- a state that has a part is answered by its lines
-pub layout-answered : {T E : Type 0} (r : Result T E) (s : State) (old new : List ℕ) → 1 ≤ length s.parts → OnOk r (new ≡ old ++ flat_map show (layout_answers 0 (layout s.parts)))
-    → OnOk r (IsAnswered (performed s Layout) s old new)
-layout-answered r s old new some appended = by s.parts refl
+pub layout-answered : (s : State) (old new : List ℕ) → 1 ≤ length s.parts → new ≡ old ++ flat_map show (layout_answers 0 (layout s.parts)) → IsAnswered (performed s Layout) s old new
+layout-answered s old new some appended = by s.parts refl
   where
-    by : (ps : List parts.Part) → s.parts ≡ ps → OnOk r (IsAnswered (performed s Layout) s old new)
+    by : (ps : List parts.Part) → s.parts ≡ ps → IsAnswered (performed s Layout) s old new
     by [] none = absurd (omega (arith, ap length none))
     by (p ∷ ps) are =
-        taken_all r old new s s Layout laid_out (step s engine.Layout) refl (engine.Parts (layout s.parts)) (line 0 (part_shape p)) (layout_answers 1 (layout ps)) (step-layout s)
-        (ap (λ l. layout_answers 0 (layout l)) are) (on_ok_weaker r (λ e. e ∙ ap (λ l. old ++ flat_map show (layout_answers 0 (layout l))) are) appended)
+        taken_all old new s s Layout laid_out (step s engine.Layout) refl (engine.Parts (layout s.parts)) (line 0 (part_shape p)) (layout_answers 1 (layout ps)) (step-layout s)
+        (ap (λ l. layout_answers 0 (layout l)) are) (appended ∙ ap (λ l. old ++ flat_map show (layout_answers 0 (layout l))) are)

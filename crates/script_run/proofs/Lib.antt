@@ -1,10 +1,4 @@
 -- What each module of lemmas speaks of.
-pub mod NumberLaws
-pub mod CutLaws
-pub mod WordLaws
-pub mod EscapeLaws
-pub mod OptionLaws
-pub mod TextLaws
 pub mod StepLaws
 pub mod PartLaws
 pub mod LayoutLaws

@@ -6,7 +6,7 @@ use Rattle.script_run.proofs.LineLaws.{up_to-more}
 use Rattle.mvcc_key.specs.Cutting.{pieces}
 use Rattle.mvcc_key.proofs.CuttingLaws.{pieces_some, pieces-append}
 use Rattle.mvcc_engine.specs.Step.{State, first_state}
-use Rattle.script_run.specs.CommandLine.{Options}
+use Rattle.script_text.specs.CommandLine.{Options}
 use Rattle.script_run.specs.Output.{Carried, carry_out, text_of, output_from, without_empty_end, lines, script_output, up_to_newline, whole_part}
 
 module _ (options : Options) where

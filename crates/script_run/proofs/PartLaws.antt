@@ -1,17 +1,18 @@
 -- Every state that a run comes to has a part.
-use Rattle.std.specs.Prelude.{ℕ, ◌≤◌, max, Bool, true, false, List, [], ◌∷◌, length, Option, Some, None, Result, Ok, Err, IfOk, nat_lt, if◌then◌else◌}
+use Rattle.std.specs.Prelude.{ℕ, ◌≤◌, Bool, true, false, List, [], ◌∷◌, length, Option, Some, None, Result, Ok, Err, IfOk, nat_lt, if◌then◌else◌}
 use Rattle.std.proofs.Common.{sym, subst, arith}
 use Rattle.std.proofs.lemmas.Result.{IfOk-at_ok}
 use Rattle.mvcc_key.specs.Steps.{◌>>=◌, unless_fault}
-use Rattle.mvcc_key.specs.Order.{Timestamp}
-use Rattle.mvcc_key.specs.History.{Deletion, History, Changed}
+use Rattle.mvcc_key.specs.History.{History, Changed}
 use Rattle.mvcc_key.specs.Field.{Field}
 use Rattle.mvcc_key.specs.Refusal as refusals
 use Rattle.mvcc_key.specs.declared.memory.OutOfMemory.{OutOfMemory}
 use Rattle.stat_core.specs.ComputeStats.{overflowing}
 use Rattle.lsm_store.specs.Parts.{Part, Stage, after_batch, is_empty_part, empty_part, flushed, compacted}
-use Rattle.mvcc_engine.specs.Write.{write}
-use Rattle.mvcc_engine.specs.Step.{State, Command, Put, Delete, Age, Flush, Compact, Get, Stats, Layout, Reply, Finished, WasThere, Stepped, statistics, unless_overflow, settled, parts_after, stage, change, step}
+use Rattle.read_rule.specs.Read.{get}
+use Rattle.write_rule.specs.Write as rule
+use Rattle.write_rule.specs.Write.{write}
+use Rattle.mvcc_engine.specs.Step.{State, Command, Put, Delete, Age, Flush, Compact, Get, Stats, Layout, Reply, Finished, Got, Stepped, statistics, stored_walls, greatest, unless_overflow, settled, parts_after, stage, read_at, write_at, deleted, change, step}
 use Rattle.mvcc_engine.specs.views.Seen.{Answers, AnswersAge, AnswersUnlessFull}
 use Rattle.mvcc_engine.specs.declared.refusal.Refusal.{Refusal}
 use Rattle.mvcc_engine.specs.declared.refusal.AgeFault.{AgeFault}
@@ -56,22 +57,22 @@ settled-part s h now parts reply some = by (overflowing s.count_max (statistics 
     by None = some
     by (Some f) = tt
 
-change-part : (s : State) (ts : Timestamp) (reply : Bool → Reply) (written : Result (Changed Bool) refusals.Refusal) → HasPart s → IfOk (change s ts reply written) LeavesPart
-change-part s ts reply written some =
-    then-part written (λ c. settled s c.history (max s.last ts.wall) (parts_after s c.history) (reply c.answer))
-    (λ c. settled-part s c.history (max s.last ts.wall) (parts_after s c.history) (reply c.answer) (after_batch-part (stage s.history) (stage c.history) s.parts some))
+change-part : {A : Type 0} (s : State) (reply : A → Reply) (written : Result (Changed A) refusals.Refusal) → HasPart s → IfOk (change s reply written) LeavesPart
+change-part s reply written some =
+    then-part written (λ c. settled s c.history (greatest s.last (stored_walls c.history)) (parts_after s c.history) (reply c.answer))
+    (λ c. settled-part s c.history (greatest s.last (stored_walls c.history)) (parts_after s c.history) (reply c.answer) (after_batch-part (stage s.history) (stage c.history) s.parts some))
 
 -- a step leaves a part
 step-part : (s : State) (c : Command) → HasPart s → IfOk (step s c) LeavesPart
 unfolding step
-step-part s (Put key ts value) some = change-part s ts (λ there. Finished) (write s.history key ts value) some
-step-part s (Delete key ts) some = change-part s ts WasThere (write s.history key ts Deletion) some
+step-part s (Put key ts value) some = change-part s (λ done. Finished) (write s.history key (write_at ts (rule.Put value))) some
+step-part s (Delete key ts) some = change-part s deleted (write s.history key (write_at ts rule.Delete)) some
 step-part s (Age now) some =
     then-part (unless_fault (nat_lt now s.last) (refusals.MomentTooEarly s.last) now) (λ later. settled s s.history now s.parts Finished)
     (λ later. settled-part s s.history now s.parts Finished some)
 step-part s Flush some = flushed-part s.parts some
 step-part s (Compact keep) some = compacted-part keep s.parts some
-step-part s (Get key ts) some = some
+step-part s (Get key ts) some = then-part (get s.history (read_at ts) key) (λ a. Ok (record { state = s; reply = Got a.found })) (λ a. some)
 step-part s Stats some = some
 step-part s Layout some = some
 

@@ -1,25 +1,24 @@
 -- What a line does to the state, and its answers.
-use Rattle.std.specs.Prelude.{◌≡◌, ℕ, Bool, true, false, List, [], ◌∷◌, ◌++◌, cond, Option, Some, None, Result, Ok, Err, OnOk, IfSome, IsSome}
+use Rattle.std.specs.Prelude.{◌≡◌, ℕ, Bool, true, false, List, [], ◌∷◌, ◌++◌, cond, Option, Some, None, Result, Ok, Err}
 use Rattle.std.specs.List.{flat_map}
 use Rattle.std.proofs.Common.{refl, sym, ap, ◌∙◌, append-nil, Bor}
 use Rattle.std.proofs.lemmas.Grind.{flat_map-append}
 use Rattle.lsm_store.specs.Parts.{layout}
 use Rattle.mvcc_key.specs.Refusal.{Refusal}
-use Rattle.mvcc_engine.specs.Read.{get}
 use Rattle.mvcc_engine.specs.Step as engine
 use Rattle.mvcc_engine.specs.Step.{State, Reply, Stepped, statistics, step}
 use Rattle.mvcc_key.specs.Order.{Timestamp, Key}
 use Rattle.mvcc_value.specs.views.Seen.{found_of}
 use Rattle.mvcc_value.specs.declared.value.Found.{Found}
 use Rattle.std.specs.Option.{option_map, option_copied}
-use Rattle.script_run.specs.Grammar as grammar
-use Rattle.script_run.specs.Grammar.{Line, parse}
-use Rattle.script_run.specs.Text as text
+use Rattle.script_text.specs.Grammar as grammar
+use Rattle.script_text.specs.Grammar.{Line, parse}
+use Rattle.script_text.specs.Text as text
 use Rattle.script_run.specs.Output.{Carried, carried, carry_out, or_refused, perform, performed, text_of, without_return, statistics_answer}
 use Rattle.mvcc_engine.specs.views.Seen.{Tells}
-use Rattle.script_run.specs.views.Answered.{IsAnswered, is_blank}
-use Rattle.std.proofs.lemmas.Result.{on_ok_weaker}
-use Rattle.script_run.proofs.TextLaws.{two_pieces}
+use Rattle.script_text.specs.views.SeenLine.{is_blank}
+use Rattle.script_run.specs.views.Answered.{IsAnswered, IsRefusedOr}
+use Rattle.script_text.proofs.TextLaws.{two_pieces, Extends-same}
 
 -- the text of answers, and of the statistics behind them where they are wanted
 text_of-answers : (wanted : Bool) (c : Carried) (s : State) (a : text.Answer) (more : List text.Answer) → c ≡ record { state = s; answers = a ∷ more }
@@ -52,44 +51,30 @@ performed-blank s grammar.Flush blank = cc
 performed-blank s (grammar.Compact keep) blank = cc
 performed-blank s grammar.Layout blank = cc
 
--- no refusal is none
-nothing : {P : Type 0} → IsSome {T = Refusal} None → P
-nothing some = cc
-
 -- what a command comes to, by what its step answers
-module _ {T E : Type 0} (r : Result T E) (old new : List ℕ) (s s' : State) (said : Line) (shown : Reply → List text.Answer) (answer : Result Stepped Refusal)
-    (is : perform s said ≡ carried shown answer) where
+module _ (old new : List ℕ) (s s' : State) (said : Line) (shown : Reply → List text.Answer) (answer : Result Stepped Refusal) (is : perform s said ≡ carried shown answer) where
   -- a step that is taken
   performed-taken : (reply : Reply) → answer ≡ Ok (record { state = s'; reply = reply }) → performed s said ≡ record { state = s'; answers = shown reply }
   unfolding performed
   performed-taken reply taken = ap (or_refused s) (is ∙ ap (carried shown) taken)
 
   pub taken_all : (reply : Reply) (a : text.Answer) (more : List text.Answer) → answer ≡ Ok (record { state = s'; reply = reply }) → shown reply ≡ a ∷ more
-      → OnOk r (new ≡ old ++ flat_map text.show (a ∷ more)) → OnOk r (IsAnswered (performed s said) s' old new)
+      → new ≡ old ++ flat_map text.show (a ∷ more) → IsAnswered (performed s said) s' old new
   taken_all reply a more took are appended =
-      on_ok_weaker r (λ e. record { answer = a; more = more; carried = performed-taken reply took ∙ ap (λ l. record { state = s'; answers = l }) are; shown = e }) appended
+      record { answer = a; more = more; carried = performed-taken reply took ∙ ap (λ l. record { state = s'; answers = l }) are; shown = appended }
 
-  pub taken : (reply : Reply) (a : text.Answer) → answer ≡ Ok (record { state = s'; reply = reply }) → shown reply ≡ a ∷ [] → OnOk r (new ≡ old ++ text.show a)
-      → OnOk r (IsAnswered (performed s said) s' old new)
-  taken reply a took one appended = taken_all reply a [] took one (on_ok_weaker r (λ e. e ∙ ap (λ t. old ++ t) (sym (append-nil (text.show a)))) appended)
+  pub taken : (reply : Reply) (a : text.Answer) → answer ≡ Ok (record { state = s'; reply = reply }) → shown reply ≡ a ∷ [] → new ≡ old ++ text.show a
+      → IsAnswered (performed s said) s' old new
+  taken reply a took one appended = taken_all reply a [] took one (appended ∙ ap (λ t. old ++ t) (sym (append-nil (text.show a))))
 
   -- a step that is refused
-  performed-refused : (why : Refusal) → answer ≡ Err why → performed s said ≡ record { state = s; answers = text.Refused (text.ByStore why) ∷ [] }
+  performed-refused : (why : Refusal) → answer ≡ Err why → performed s said ≡ record { state = s; answers = text.Refused (text.ByEngine why) ∷ [] }
   unfolding performed
   performed-refused why denied = ap (or_refused s) (is ∙ ap (carried shown) denied)
 
-  pub refused : (o : Option Refusal) → OnOk r (IfSome o (λ why. new ≡ old ++ text.show (text.Refused (text.ByStore why)))) → OnOk r (IsSome o) → s' ≡ s → Tells o answer
-      → OnOk r (IsAnswered (performed s said) s' old new)
-  refused None appended told same denied = on_ok_weaker r nothing told
-  refused (Some why) appended told same denied =
-      on_ok_weaker r
-      (λ e. record {
-        answer = text.Refused (text.ByStore why);
-        more = [];
-        carried = performed-refused why denied ∙ ap (λ t. record { state = t; answers = text.Refused (text.ByStore why) ∷ [] }) (sym same);
-        shown = e ∙ ap (λ t. old ++ t) (sym (append-nil (text.show (text.Refused (text.ByStore why)))));
-      })
-      appended
+  pub refused : (o : Option Refusal) → Tells o answer → s' ≡ s → new ≡ old → IsRefusedOr o (performed s said) s s' old new
+  refused None told same kept = Extends-same old new kept
+  refused (Some why) denied same kept = record { carried = performed-refused why denied; state = same; text = kept }
 
 -- the text of a line with answers, and of the statistics behind them where they are wanted
 pub answered : (wanted : Bool) (c : Carried) (s : State) (a : text.Answer) (more : List text.Answer) (old mid new : List ℕ) → c ≡ record { state = s; answers = a ∷ more }
@@ -102,11 +87,7 @@ answered wanted c s a more old mid new is first last =
 pub unanswered : (wanted : Bool) (c : Carried) (s : State) (old : List ℕ) → c ≡ record { state = s; answers = [] } → old ≡ old ++ text_of wanted c
 unanswered wanted c s old is = sym (append-nil old) ∙ ap (λ t. old ++ t) (sym (ap (text_of wanted) is))
 
--- a get and a look at the statistics are always taken, and leave the state
-pub step-get : (s : State) (key : Key) (ts : Timestamp) → step s (engine.Get key ts) ≡ Ok (record { state = s; reply = engine.Got (get s.history key ts) })
-unfolding step
-step-get s key ts = refl
-
+-- a look at the statistics is always taken, and leaves the state
 pub step-stats : (s : State) → step s engine.Stats ≡ Ok (record { state = s; reply = engine.Statistics (statistics s.last s.history) s.last })
 unfolding step
 step-stats s = refl

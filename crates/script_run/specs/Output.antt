@@ -7,9 +7,9 @@ use Rattle.mvcc_key.specs.Order.{Key}
 use Rattle.mvcc_key.specs.Refusal.{Refusal}
 use Rattle.lsm_store.specs.Parts.{PartShape}
 use Rattle.mvcc_engine.specs.Step.{State, first_state, statistics, Command, Reply, Finished, WasThere, Got, Statistics, Parts, Stepped, step}
-use Rattle.script_run.specs.Grammar.{Line, parse}
-use Rattle.script_run.specs.Text.{Reason, BadLine, ByStore, Answer, show}
-use Rattle.script_run.specs.CommandLine.{Options, Invocation, Run, invocation}
+use Rattle.script_text.specs.Grammar.{Line, parse}
+use Rattle.script_text.specs.Text.{Reason, BadLine, ByEngine, Answer, show}
+use Rattle.script_text.specs.CommandLine.{Options, Invocation, Run, invocation}
 
 -- a line that is carried out: the state after it, and its answers
 pub record Carried : Type 0 where
@@ -49,7 +49,7 @@ laid_out reply = []
 -- a command that is carried out: the state after it and how its reply is shown, or why it is refused
 abbrev pub carried : (Reply → List Answer) → Result Stepped Refusal → Result Carried Reason
 carried shown (Ok done) = Ok (record { state = done.state; answers = shown done.reply })
-carried shown (Err why) = Err (ByStore why)
+carried shown (Err why) = Err (ByEngine why)
 
 -- what a line says is done
 abbrev pub perform : State → Line → Result Carried Reason

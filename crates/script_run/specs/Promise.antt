@@ -1,12 +1,8 @@
 -- What a run promises of its source and its sink, for each way in which it ends.
-use Rattle.std.specs.Prelude.{◌≡◌, ℕ, ◌<◌, ◌≤◌, ◌+◌, List, ◌++◌, length, take, Option}
+use Rattle.std.specs.Prelude.{ℕ, ◌<◌, ◌≤◌, ◌+◌, List, length, take, Option}
 use Rattle.std.specs.Io.KnownBytes.{Appends, Consumes, IsAtEnd}
 use Rattle.io_edge.specs.Writing.{AppendsBeginning}
 use Rattle.script_run.specs.Output.{whole_part}
-
--- old with something behind it
-abbrev pub Extends : List ℕ → List ℕ → Type 0
-Extends old new = (more : List ℕ) × (new ≡ old ++ more)
 
 -- the longest script, in bytes
 abbrev pub script_max : ℕ

@@ -1,6 +1,5 @@
 -- Words that only contracts of the code need: how they view its values, and what holds inside.
 pub mod Answered
 pub mod Gathering
-pub mod Seen
-pub mod SeenLine
+pub mod Stopping
 pub mod Ending

@@ -5,13 +5,13 @@ ghost use Rattle.io_edge.specs.Causes.{HasCause, Rose};
 ghost use Rattle.io_edge.specs.Writing.{AppendsBeginning};
 ghost use Rattle.script_run.specs.Output.{script_output};
 ghost use Rattle.script_run.specs.views.Gathering.{Gathers, Moves};
-ghost use Rattle.script_run.specs.views.Seen.{StopsAt};
+ghost use Rattle.script_run.specs.views.Stopping.{StopsAt};
 
-use crate::command_line::Options;
 use crate::script::first_line;
 use crate::session::Session;
 use io_edge::{Failed, Sink, write_all};
 use mvcc_key::OutOfMemory;
+use script_text::Options;
 use std::alloc::Global;
 
 /// About how many bytes of answers are gathered before they are written.

@@ -1,16 +1,16 @@
 //! The top call: a script is read and carried out, and its answers are written.
 ghost use Rattle.std.specs.Prelude.{◌≡◌, ◌≤◌, ◌⊎◌, IsNone, IsSome, IfSome, length, map, string_bytes};
 ghost use Rattle.io_edge.specs.Causes.{Rose};
-ghost use Rattle.script_run.specs.CommandLine.{invocation};
+ghost use Rattle.script_text.specs.CommandLine.{invocation};
 ghost use Rattle.script_run.specs.Promise.{TakesWithin, WritesAll, WritesBeginning, WritesWholeLines, script_max};
 ghost use Rattle.script_run.specs.Output.{output, script_output};
 ghost use Rattle.script_run.specs.views.Ending.{AnswersAs, EndsAs, number_of, status_after};
 
 use crate::answers::{WriteStop, write_answers};
-use crate::command_line::{Options, read_words};
 use crate::script::{ReadStop, SCRIPT_MAX, read_script, whole_part};
 use io_edge::{Sink, Source};
 use mvcc_key::OutOfMemory;
+use script_text::{Options, read_command_line};
 use std::alloc::Global;
 use std::thread::Threads;
 
@@ -83,7 +83,7 @@ pub fn run<R: Threads + Sync, S: Source, K: Sink>(
         → ¬ Rose (S.faults source.old) (S.faults source.new) → ¬ Rose (K.faults sink.old) (K.faults sink.new)
         → (result ≡ Status.Done) ⊎ (result ≡ Status.OutOfMemory)) }
 {
-    match read_words(alloc, words) {
+    match read_command_line(alloc, words) {
         Ok(Some(options)) => run_script(alloc, options, source, sink),
         Ok(None) => Status::Usage,
         Err(OutOfMemory) => Status::OutOfMemory,

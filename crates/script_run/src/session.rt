@@ -1,26 +1,25 @@
 //! What a script has made so far, and what one line does to it.
-ghost use Rattle.std.specs.Prelude.{◌≡◌, ◌++◌, ◌<◌, ◌≤◌, ◌^◌, OnOk, OnErr, IfSome, IsSome, cond, false, [], map};
+ghost use Rattle.std.specs.Prelude.{◌≡◌, ◌++◌, ◌<◌, ◌≤◌, ◌^◌, OnOk, OnErr, MatchResult, Some, None, cond, false, [], map};
 ghost use Rattle.std.specs.List.{flat_map};
+ghost use Rattle.std.specs.Option.{option_map};
 ghost use Rattle.lsm_store.specs.views.Seen.{seen_shape};
 ghost use Rattle.mvcc_key.specs.History.{Bytes};
 ghost use Rattle.mvcc_key.specs.views.Seen.{time_of};
-ghost use Rattle.mvcc_engine.specs.views.Seen.{fault_of, refusal_of};
+ghost use Rattle.mvcc_engine.specs.views.Seen.{refusal_of};
 ghost use Rattle.mvcc_engine.specs.Step.{first_state};
-ghost use Rattle.script_run.specs.Grammar.{Age, Compact, Del, Flush, Get, Layout, Put};
+ghost use Rattle.script_text.specs.Grammar.{Age, Compact, Del, Flush, Get, Layout, Put, Stats};
+ghost use Rattle.script_text.specs.Text.{ByEngine, show};
+ghost use Rattle.script_text.specs.views.Appending.{Extends};
+ghost use Rattle.script_text.specs.views.Seen.{reason_of};
+ghost use Rattle.script_text.specs.views.SeenLine.{is_blank, line_of};
 ghost use Rattle.script_run.specs.Output.{carry_out, layout_answers, performed, statistics_answer, text_of};
-ghost use Rattle.script_run.specs.views.Answered.{IsAnswered, is_blank};
-ghost use Rattle.script_run.specs.Promise.{Extends};
-ghost use Rattle.script_run.specs.Text.{ByStore, Refused, show};
-ghost use Rattle.script_run.specs.views.Seen.{reason_of};
-ghost use Rattle.script_run.specs.views.SeenLine.{line_of};
+ghost use Rattle.script_run.specs.views.Answered.{Carries, IsAnswered};
 
-use crate::command_line::Options;
-use crate::grammar::{Line, parse};
 use crate::script::without_return;
-use crate::text::{Answer, Reason, show};
-use mvcc_engine::{AgeFault, Engine, PartShape, Refusal};
+use mvcc_engine::{Engine, PartShape, Refusal};
 use mvcc_key::{OutOfMemory, Timestamp};
 use mvcc_value::PlainValue;
+use script_text::{Answer, Line, LineFault, Options, Reason, parse_line, show};
 use std::alloc::Global;
 use std::marker::Model;
 
@@ -88,14 +87,18 @@ impl Session {
         ensures answer { OnOk result (text.new.items ≡ text.old.items ++ text_of options.stats (carry_out self.old number line.now)) }
         ensures err { OnErr result (Extends text.old.items text.new.items) }
     {
-        let Some(said) = parse(self.alloc, without_return(line))? else {
-            show(Answer::Refused(Reason::BadLine(number)), text)?;
-            return self.show_statistics(options, text);
+        let said = match parse_line(self.alloc, without_return(line)) {
+            Ok(said) => said,
+            Err(LineFault::BadLine) => {
+                show(self.alloc, &Answer::Refused(Reason::BadLine(number)), text)?;
+                return self.show_statistics(options, text);
+            }
+            Err(LineFault::OutOfMemory) => return Err(OutOfMemory),
         };
         if said.is_blank() {
             return Ok(());
         }
-        self.perform(&said, text)?;
+        self.command(&said, text)?;
         self.show_statistics(options, text)
     }
 
@@ -105,16 +108,30 @@ impl Session {
         ensures err { OnErr result (text.new.items ≡ text.old.items) }
     {
         if options.stats() {
-            return show(Answer::Statistics(&self.engine.stats()), text);
+            return show(self.alloc, &Answer::Statistics(&self.engine.stats()), text);
         }
         Ok(())
     }
 
-    /// Does what a command says, and appends the text of its answers. Where memory is wanting the text stays as it was.
-    fn perform(&mut self, line: &Line<'_>, text: &mut Vec<u8>) -> Result<(), OutOfMemory>
+    /// Does what a command says, and appends the text of its answers or of its refusal.
+    fn command(&mut self, line: &Line<'_>, text: &mut Vec<u8>) -> Result<(), OutOfMemory>
         requires { is_blank (line_of line.now) ≡ false }
         ensures ok { OnOk result (IsAnswered (performed self.old (line_of line.now)) self.new text.old.items text.new.items) }
-        ensures err { OnErr result (text.new.items ≡ text.old.items) }
+        ensures err { OnErr result (Extends text.old.items text.new.items) }
+    {
+        match self.perform(line, text) {
+            Ok(()) => Ok(()),
+            Err(why) => {
+                let why = reason_of(why)?;
+                show(self.alloc, &Answer::Refused(why), text)
+            }
+        }
+    }
+
+    /// Does what a command says, and appends the text of its answers, or tells why it is refused.
+    fn perform(&mut self, line: &Line<'_>, text: &mut Vec<u8>) -> Result<(), Refusal>
+        requires { is_blank (line_of line.now) ≡ false }
+        ensures { Carries result (performed self.old (line_of line.now)) self.old self.new text.old.items text.new.items }
     {
         match line {
             Line::Blank => Ok(()),
@@ -122,7 +139,7 @@ impl Session {
             Line::Get { key, ts } => self.get(key.as_slice(), *ts, text),
             Line::Del { key, ts } => self.delete(key.as_slice(), *ts, text),
             Line::Age { now } => self.age(now.nanos, text),
-            Line::Stats => show(Answer::Statistics(&self.engine.stats()), text),
+            Line::Stats => self.stats(text),
             Line::Flush => self.flush(text),
             Line::Compact { keep } => self.compact(keep.runs, text),
             Line::Layout => self.layout(text),
@@ -135,115 +152,102 @@ impl Session {
         ts: Timestamp,
         value: &[u8],
         text: &mut Vec<u8>,
-    ) -> Result<(), OutOfMemory>
-        ensures ok { OnOk result (IsAnswered (performed self.old (Put key.now (time_of ts) (Bytes value.now))) self.new text.old.items text.new.items) }
-        ensures err { OnErr result (text.new.items ≡ text.old.items) }
+    ) -> Result<(), Refusal>
+        ensures { Carries result (performed self.old (Put key.now (time_of ts) (Bytes value.now))) self.old self.new text.old.items text.new.items }
     {
-        if let Err(why) = self.engine.put_at(key, PlainValue::Bytes(value), ts) {
-            return show_refusal(why, text);
-        }
-        show(Answer::Accepted, text)
+        self.engine.put_at(key, PlainValue::Bytes(value), ts)?;
+        show(self.alloc, &Answer::Accepted, text)?;
+        Ok(())
     }
 
-    fn get(&mut self, key: &[u8], ts: Timestamp, text: &mut Vec<u8>) -> Result<(), OutOfMemory>
-        ensures ok { OnOk result (IsAnswered (performed self.old (Get key.now (time_of ts))) self.new text.old.items text.new.items) }
-        ensures err { OnErr result (text.new.items ≡ text.old.items) }
+    fn get(&mut self, key: &[u8], ts: Timestamp, text: &mut Vec<u8>) -> Result<(), Refusal>
+        ensures { Carries result (performed self.old (Get key.now (time_of ts))) self.old self.new text.old.items text.new.items }
     {
         let found = self.engine.get_at(key, ts)?;
-        show(Answer::of_read(key, found.as_ref()), text)
+        show(self.alloc, &Answer::of_read(key, found.as_ref()), text)?;
+        Ok(())
     }
 
-    fn delete(&mut self, key: &[u8], ts: Timestamp, text: &mut Vec<u8>) -> Result<(), OutOfMemory>
-        ensures ok { OnOk result (IsAnswered (performed self.old (Del key.now (time_of ts))) self.new text.old.items text.new.items) }
-        ensures err { OnErr result (text.new.items ≡ text.old.items) }
+    fn delete(&mut self, key: &[u8], ts: Timestamp, text: &mut Vec<u8>) -> Result<(), Refusal>
+        ensures { Carries result (performed self.old (Del key.now (time_of ts))) self.old self.new text.old.items text.new.items }
     {
-        let found = match self.engine.delete_at(key, ts) {
-            Ok(found) => found,
-            Err(why) => return show_refusal(why, text),
-        };
-        show(Answer::Deleted { found }, text)
+        let found = self.engine.delete_at(key, ts)?;
+        show(self.alloc, &Answer::Deleted { found }, text)?;
+        Ok(())
     }
 
-    fn age(&mut self, now: u64, text: &mut Vec<u8>) -> Result<(), OutOfMemory>
+    fn age(&mut self, now: u64, text: &mut Vec<u8>) -> Result<(), Refusal>
         requires { now < 2 ^ 63 }
-        ensures ok { OnOk result (IsAnswered (performed self.old (Age now)) self.new text.old.items text.new.items) }
-        ensures err { OnErr result (text.new.items ≡ text.old.items) }
+        ensures { Carries result (performed self.old (Age now)) self.old self.new text.old.items text.new.items }
     {
-        if let Err(fault) = self.engine.age(now) {
-            return show(Answer::Refused(reason_of_age(fault)), text);
-        }
-        show(Answer::Accepted, text)
+        self.engine.age(now)?;
+        show(self.alloc, &Answer::Accepted, text)?;
+        Ok(())
     }
 
-    fn flush(&mut self, text: &mut Vec<u8>) -> Result<(), OutOfMemory>
-        ensures ok { OnOk result (IsAnswered (performed self.old Flush) self.new text.old.items text.new.items) }
-        ensures err { OnErr result (text.new.items ≡ text.old.items) }
+    fn stats(&self, text: &mut Vec<u8>) -> Result<(), Refusal>
+        ensures { Carries result (performed self.now Stats) self.now self.now text.old.items text.new.items }
+    {
+        show(self.alloc, &Answer::Statistics(&self.engine.stats()), text)?;
+        Ok(())
+    }
+
+    fn flush(&mut self, text: &mut Vec<u8>) -> Result<(), Refusal>
+        ensures { Carries result (performed self.old Flush) self.old self.new text.old.items text.new.items }
     {
         self.engine.flush()?;
-        show(Answer::Accepted, text)
+        show(self.alloc, &Answer::Accepted, text)?;
+        Ok(())
     }
 
-    fn compact(&mut self, keep: u64, text: &mut Vec<u8>) -> Result<(), OutOfMemory>
+    fn compact(&mut self, keep: u64, text: &mut Vec<u8>) -> Result<(), Refusal>
         requires { 1 ≤ keep }
-        ensures ok { OnOk result (IsAnswered (performed self.old (Compact keep)) self.new text.old.items text.new.items) }
-        ensures err { OnErr result (text.new.items ≡ text.old.items) }
+        ensures { Carries result (performed self.old (Compact keep)) self.old self.new text.old.items text.new.items }
     {
         self.engine.compact(keep)?;
-        show(Answer::Accepted, text)
+        show(self.alloc, &Answer::Accepted, text)?;
+        Ok(())
     }
 
-    fn layout(&self, text: &mut Vec<u8>) -> Result<(), OutOfMemory>
-        ensures ok { OnOk result (IsAnswered (performed self.now Layout) self.now text.old.items text.new.items) }
-        ensures err { OnErr result (text.new.items ≡ text.old.items) }
+    fn layout(&self, text: &mut Vec<u8>) -> Result<(), Refusal>
+        ensures { Carries result (performed self.now Layout) self.now self.now text.old.items text.new.items }
     {
         let shapes = self.engine.layout()?;
-        show_layout(&shapes, text)
+        show_layout(self.alloc, &shapes, text)?;
+        Ok(())
     }
 }
 
-/// Appends a line for each part, the memory table first. Where memory is wanting the text stays as it was.
-fn show_layout(shapes: &[PartShape], text: &mut Vec<u8>) -> Result<(), OutOfMemory>
+/// Appends a line for each part, the memory table first. Where memory is wanting a beginning of them may stand there.
+fn show_layout(alloc: Global, shapes: &[PartShape], text: &mut Vec<u8>) -> Result<(), OutOfMemory>
     ensures ok { OnOk result (text.new.items ≡ text.old.items ++ flat_map show (layout_answers 0 (map seen_shape shapes.now))) }
-    ensures err { OnErr result (text.new.items ≡ text.old.items) }
+    ensures err { OnErr result (Extends text.old.items text.new.items) }
 {
-    let start = text.len();
     for (index, shape) in shapes.iter().enumerate() {
         let line = Answer::LayoutLine {
             index: index as u64,
-            shape: *shape,
+            keys: shape.keys,
+            clears: shape.clears,
+            ranges: shape.ranges,
         };
-        if let Err(wanting) = show(line, text) {
-            text.truncate(start);
-            return Err(wanting);
-        }
+        show(alloc, &line, text)?;
     }
     Ok(())
 }
 
-/// The reason that a fault of ageing tells.
-fn reason_of_age(fault: AgeFault) -> Reason
-    ensures { reason_of result ≡ ByStore (fault_of fault) }
+/// The reason that a refusal tells; want of memory is none.
+fn reason_of(why: Refusal) -> Result<Reason, OutOfMemory>
+    ensures { MatchResult result (λ reason. option_map ByEngine (refusal_of why) ≡ Some (reason_of reason)) (λ _. refusal_of why ≡ None) }
 {
-    match fault {
-        AgeFault::MomentTooEarly(latest) => Reason::MomentTooEarly(latest),
-        AgeFault::CountOverflow(field) => Reason::CountOverflow(field),
-    }
-}
-
-/// Appends the text of a refusal, or hands on that memory is wanting.
-fn show_refusal(why: Refusal, text: &mut Vec<u8>) -> Result<(), OutOfMemory>
-    ensures ok { OnOk result (IfSome (refusal_of why) (λ r. text.new.items ≡ text.old.items ++ show (Refused (ByStore r)))) }
-    ensures told { OnOk result (IsSome (refusal_of why)) }
-    ensures err { OnErr result (text.new.items ≡ text.old.items) }
-{
-    let reason = match why {
+    let refusal = match why {
         Refusal::OutOfMemory => return Err(OutOfMemory),
-        Refusal::EmptyKey => Reason::EmptyKey,
-        Refusal::KeyTooLong(length) => Reason::KeyTooLong(length),
-        Refusal::ValueTooLong(length) => Reason::ValueTooLong(length),
-        Refusal::BadTimestamp => Reason::BadTimestamp,
-        Refusal::TooOld(existing) => Reason::TooOld(existing),
-        Refusal::CountOverflow(field) => Reason::CountOverflow(field),
+        Refusal::EmptyKey => script_text::Refusal::EmptyKey,
+        Refusal::KeyTooLong(length) => script_text::Refusal::KeyTooLong(length),
+        Refusal::ValueTooLong(length) => script_text::Refusal::ValueTooLong(length),
+        Refusal::BadTimestamp => script_text::Refusal::BadTimestamp,
+        Refusal::TooOld(existing) => script_text::Refusal::TooOld(existing),
+        Refusal::MomentTooEarly(latest) => script_text::Refusal::MomentTooEarly(latest),
+        Refusal::CountOverflow(field) => script_text::Refusal::CountOverflow(field),
     };
-    show(Answer::Refused(reason), text)
+    Ok(Reason::ByEngine(refusal))
 }

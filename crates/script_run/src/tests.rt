@@ -1,7 +1,6 @@
 ghost use Rattle.std.specs.Prelude.{◌≤◌};
 
 use super::*;
-use crate::command_line::read_options;
 use io_edge::{MemSink, MemSource, SureSink, SureSource};
 use std::alloc::{AllocError, Global};
 use std::test::Fail;
@@ -239,51 +238,5 @@ fn statistics_are_a_recount(rt: HostRuntime) -> Result<(), Fail> {
         assert!(rt; status == Status::Done);
         assert_eq!(rt; sink.bytes(), answers);
     }
-    Ok(())
-}
-
-#[test]
-fn options_are_read_by_hand(rt: HostRuntime) -> Result<(), Fail> {
-    const MOST: u64 = 9_223_372_036_854_775_807;
-    let cases: [(&str, Option<(bool, u64)>); 24] = [
-        ("", Some((false, MOST))),
-        ("--stats", Some((true, MOST))),
-        ("--count-max 100", Some((false, 100))),
-        ("--stats --count-max=100", Some((true, 100))),
-        ("--count-max 1 --stats", Some((true, 1))),
-        ("--count-max=9223372036854775807", Some((false, MOST))),
-        ("--count-max=09223372036854775807", Some((false, MOST))),
-        ("--count-max=00000000000000000001", Some((false, 1))),
-        ("--count-max=000000000000000000001", None),
-        ("--count-max=9223372036854775808", None),
-        ("--count-max=0", None),
-        ("--count-max=", None),
-        ("--count-max=+1", None),
-        ("--count-max", None),
-        ("--count-max --stats", None),
-        ("--count-max 1 --count-max=2", None),
-        ("--stats --stats", None),
-        ("--stats=", None),
-        ("--stats=x", None),
-        ("--stat", None),
-        ("--", None),
-        ("-- --stats", None),
-        ("--count-max=1 1", None),
-        ("--fast 1", None),
-    ];
-    for (line, wanted) in cases {
-        let words = words(rt.alloc(), line)?;
-        let read = read_options(rt.alloc(), &words)?;
-        let read = read.map(|options| (options.stats(), options.count_max()));
-        assert_eq!(rt; read, wanted, "{line}");
-    }
-    Ok(())
-}
-
-#[test]
-fn an_empty_word_waits_for_its_value(rt: HostRuntime) -> Result<(), Fail> {
-    let mut words = words(rt.alloc(), "--stats")?;
-    words.push(String::from_str(rt.alloc(), "")?)?;
-    assert!(rt; read_options(rt.alloc(), &words)?.is_none());
     Ok(())
 }

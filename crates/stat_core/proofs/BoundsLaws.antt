@@ -92,17 +92,17 @@ compute_span-bounds now start end pairs fs =
     (bounds-total (sums_of_fragment now) (cut_to start end fs) (λ f. fragment_sums-bounds now (length f.start) (length f.end) f.stack))
 
 -- the first part is at most the whole
-pub first_part : (s t : Sums) → IsAtMost s (s ⊕ t)
-first_part s t f = rw (field-⊕ f s t) (omega arith)
+pub first-part : (s t : Sums) → IsAtMost s (s ⊕ t)
+first-part s t f = rw (field-⊕ f s t) (omega arith)
 
 -- the second part is at most the whole
-pub second_part : (s t : Sums) → IsAtMost t (s ⊕ t)
-second_part s t f = rw (field-⊕ f s t) (omega arith)
+pub second-part : (s t : Sums) → IsAtMost t (s ⊕ t)
+second-part s t f = rw (field-⊕ f s t) (omega arith)
 
 -- what a key adds is at most the whole
 pub share-part : (now : ℕ) (pairs : List Pair) (fs : List Fragment) (k : Key) → IsAtMost (share now pairs fs k) (compute_stats now pairs fs)
 share-part now pairs fs k f =
-    subst (λ s. field f (share now pairs fs k) ≤ field f s) (sym (compute_stats-split now pairs fs k)) (first_part (share now pairs fs k) (compute_stats now (others_of k pairs) fs) f)
+    subst (λ s. field f (share now pairs fs k) ≤ field f s) (sym (compute_stats-split now pairs fs k)) (first-part (share now pairs fs k) (compute_stats now (others_of k pairs) fs) f)
 
 find-none : {X : Type 0} (test : X → Bool) (xs : List X) → find test xs ≡ None → AllByRecursion (λ x. test x ≡ false) xs
 find-none test [] h = tt

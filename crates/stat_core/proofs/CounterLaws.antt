@@ -9,13 +9,13 @@ use Rattle.std.proofs.lemmas.List.{get_or-set_other}
 use Rattle.mvcc_key.specs.Field.{Field, all_fields, KeyCount, KeyBytes, ValCount, ValBytes, LiveCount, LiveBytes, IntentCount, IntentBytes, IntentAge, GcBytesAge, RangeKeyCount, RangeKeyBytes, RangeValCount, RangeValBytes}
 use Rattle.stat_core.specs.ComputeStats.{field, overflowing}
 use Rattle.stat_core.specs.views.Counters.{count_at, number_at, moved_by, changed_number, AreCounted, IsFirstAbove}
-use Rattle.stat_core.specs.Running.{place_of, sums_of}
+use Rattle.stat_core.specs.Running.{field_index, sums_of}
 use Rattle.stat_core.specs.Settling.{NoDebt, whole, whole_sums}
 use Rattle.stat_core.specs.declared.counters.Sign.{Sign}
 use Rattle.stat_core.proofs.BoundsLaws.{no_overflow-from, fields-tell}
 
 -- each place has a field
-some_field : (i : ℕ) → i < 14 → (f : Field) × (place_of f ≡ i)
+some_field : (i : ℕ) → i < 14 → (f : Field) × (field_index f ≡ i)
 some_field zero h = (KeyCount, refl)
 some_field (suc zero) h = (KeyBytes, refl)
 some_field (suc (suc zero)) h = (ValCount, refl)
@@ -33,8 +33,8 @@ some_field (suc (suc (suc (suc (suc (suc (suc (suc (suc (suc (suc (suc (suc zero
 some_field (suc (suc (suc (suc (suc (suc (suc (suc (suc (suc (suc (suc (suc (suc n)))))))))))))) h = absurd (omega arith)
 
 -- what holds of the number of each field holds of that at each place
-pub at_place : (P : ℤ → Type 0) (xs : List ℤ) (i : ℕ) → i < 14 → ((f : Field) → P (number_at xs f)) → P (slice_index_or xs i (pos 0))
-at_place P xs i h all = let s = some_field i h in subst (λ k. P (slice_index_or xs k (pos 0))) s.1 (all s.0)
+pub at-place : (P : ℤ → Type 0) (xs : List ℤ) (i : ℕ) → i < 14 → ((f : Field) → P (number_at xs f)) → P (slice_index_or xs i (pos 0))
+at-place P xs i h all = let s = some_field i h in subst (λ k. P (slice_index_or xs k (pos 0))) s.1 (all s.0)
 
 -- what the counter at a place becomes
 abbrev pub changed_at : List ℕ → List ℤ → List ℤ → Sign → ℕ → ℤ
@@ -46,7 +46,7 @@ pub changed_at-no_debt : (counts : List ℕ) (gained numbers : List ℤ) (sign :
 changed_at-no_debt counts gained numbers sign i h none =
     let s = some_field i h in subst (λ k. pos 0 ≤ℤ changed_at counts gained numbers sign k) s.1 (none s.0)
 
-pub place_of-within : (f : Field) → place_of f < 14
+pub place_of-within : (f : Field) → field_index f < 14
 place_of-within KeyCount = lit< tt
 place_of-within KeyBytes = lit< tt
 place_of-within ValCount = lit< tt
@@ -66,7 +66,7 @@ place_of-within RangeValBytes = lit< tt
 abbrev field_at : ℕ → Field
 field_at i = get_or all_fields i KeyCount
 
-field_at-place : (f : Field) → field_at (place_of f) ≡ f
+field_at-place : (f : Field) → field_at (field_index f) ≡ f
 field_at-place KeyCount = refl
 field_at-place KeyBytes = refl
 field_at-place ValCount = refl
@@ -82,21 +82,21 @@ field_at-place RangeKeyBytes = refl
 field_at-place RangeValCount = refl
 field_at-place RangeValBytes = refl
 
-same_place : (f g : Field) → place_of f ≡ place_of g → f ≡ g
+same_place : (f g : Field) → field_index f ≡ field_index g → f ≡ g
 same_place f g e = sym (field_at-place f) ∙ ap field_at e ∙ field_at-place g
 
 -- the fields are numbered from n on
 Numbered : ℕ → List Field → Type 0
 Numbered n [] = ⊤
-Numbered n (f ∷ fs) = (place_of f ≡ n) × Numbered (n + 1) fs
+Numbered n (f ∷ fs) = (field_index f ≡ n) × Numbered (n + 1) fs
 
 -- the first that passes a test is found
-find-first : (test : Field → Bool) (fs : List Field) (n : ℕ) (g : Field) → Numbered n fs → n ≤ place_of g → place_of g < n + length fs
-    → test g ≡ true → ((f : Field) → place_of f < place_of g → test f ≡ false) → find test fs ≡ Some g
+find-first : (test : Field → Bool) (fs : List Field) (n : ℕ) (g : Field) → Numbered n fs → n ≤ field_index g → field_index g < n + length fs
+    → test g ≡ true → ((f : Field) → field_index f < field_index g → test f ≡ false) → find test fs ≡ Some g
 unfolding Numbered
 find-first test [] n g num low high pass before = absurd (omega arith)
 find-first test (f ∷ fs) n g num low high pass before =
-    elim (cases_order (place_of f) (place_of g)) [
+    elim (cases_order (field_index f) (field_index g)) [
       | inl same ↦ (let e : f ≡ g = same_place f g same in let p : test f ≡ true = ap test e ∙ pass in rw p (ap (λ h. Some h) e))
       | inr other ↦ elim other [
         | inl under ↦ rw (before f under) (find-first test fs (n + 1) g num.1 (omega (arith, num.0, under)) (omega (arith, high)) pass before)
@@ -196,25 +196,25 @@ low-more next i v bound within here before k lt =
     ]
 
 -- the first place whose number passes the bound is the first field's
-pub first_above : (bound : ℕ) (counts : List ℕ) (gained numbers : List ℤ) (sign : Sign) (next : List ℕ) (i : ℕ) (f : Field) → place_of f ≡ i
+pub first-above : (bound : ℕ) (counts : List ℕ) (gained numbers : List ℤ) (sign : Sign) (next : List ℕ) (i : ℕ) (f : Field) → field_index f ≡ i
     → pos bound <ℤ changed_at counts gained numbers sign i
     → ((k : ℕ) → k < i → pos (get_or next k 0) ≡ changed_at counts gained numbers sign k) → ((k : ℕ) → k < i → get_or next k 0 ≤ bound)
     → IsFirstAbove bound (changed_number counts gained numbers sign) f
-first_above bound counts gained numbers sign next i f here above same low = record {
+first-above bound counts gained numbers sign next i f here above same low = record {
   above = subst (λ k. pos bound <ℤ changed_at counts gained numbers sign k) (sym here) above;
   before = λ g lt.
-      let before : place_of g < i = omega (arith, here, lt) in
-      let l : get_or next (place_of g) 0 ≤ bound = low (place_of g) before in
-      let up : pos (get_or next (place_of g) 0) ≤ℤ pos bound = omega (arith, ints, l) in
-      subst (λ z. z ≤ℤ pos bound) (same (place_of g) before) up;
+      let before : field_index g < i = omega (arith, here, lt) in
+      let l : get_or next (field_index g) 0 ≤ bound = low (field_index g) before in
+      let up : pos (get_or next (field_index g) 0) ≤ℤ pos bound = omega (arith, ints, l) in
+      subst (λ z. z ≤ℤ pos bound) (same (field_index g) before) up;
 }
 
 -- what is written at every place is written for every field
-pub all_counted : (bound : ℕ) (counts : List ℕ) (gained numbers : List ℤ) (sign : Sign) (next : List ℕ) (i : ℕ) → length next ≡ 14 → 14 ≤ i
+pub all-counted : (bound : ℕ) (counts : List ℕ) (gained numbers : List ℤ) (sign : Sign) (next : List ℕ) (i : ℕ) → length next ≡ 14 → 14 ≤ i
     → ((k : ℕ) → k < i → pos (get_or next k 0) ≡ changed_at counts gained numbers sign k) → ((k : ℕ) → k < i → get_or next k 0 ≤ bound)
     → AreCounted bound (changed_number counts gained numbers sign) next
-all_counted bound counts gained numbers sign next i long all same low = record {
+all-counted bound counts gained numbers sign next i long all same low = record {
   all = long;
-  same = λ f. same (place_of f) (omega (arith, place_of-within f));
-  within = λ f. low (place_of f) (omega (arith, place_of-within f));
+  same = λ f. same (field_index f) (omega (arith, place_of-within f));
+  within = λ f. low (field_index f) (omega (arith, place_of-within f));
 }

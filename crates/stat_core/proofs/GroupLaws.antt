@@ -6,7 +6,7 @@ use Rattle.std.proofs.lemmas.Int.{ints}
 use Rattle.std.specs.List.{AllByRecursion}
 use Rattle.std.specs.List.Sorted.{IsStrictlySortedBy}
 use Rattle.mvcc_key.specs.Order.{Timestamp, newer_first}
-use Rattle.stat_core.specs.views.Seen.{version_of}
+use Rattle.stat_core.specs.views.Seen.{version_shape_of}
 use Rattle.stat_core.specs.declared.shape.VersionShape as code
 use Rattle.stat_core.specs.DeadSince.{VersionShape, dead_since}
 use Rattle.stat_core.specs.ComputeStats.{Sums, live_or_garbage, version_sums, versions_sums, KeyShape, live_key, own_sums, newest_dead, intent_sums, key_sums}
@@ -145,7 +145,7 @@ gc_bytes_age-is now k dead t n newest tally is =
     is ∙ (λ i. tally i + (live_or_garbage now (k.key_length + 1 + k.record_length) (newest i)).gc_bytes_age) ∙ sym ((key_sums-adds now k).gc_bytes_age)
 
 -- the versions' lengths are those of their shapes
-pub lengths-shapes : (vs : List code.VersionShape) → AllByRecursion (λ v. v.value_length ≤ 2 ^ 25) (map version_of vs) → AllByRecursion (λ v. v.value_len ≤ 2 ^ 25) vs
+pub lengths-shapes : (vs : List code.VersionShape) → AllByRecursion (λ v. v.value_length ≤ 2 ^ 25) (map version_shape_of vs) → AllByRecursion (λ v. v.value_len ≤ 2 ^ 25) vs
 lengths-shapes [] all = tt
 lengths-shapes (v ∷ vs) all = (all.0, lengths-shapes vs all.1)
 

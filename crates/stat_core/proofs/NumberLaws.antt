@@ -6,15 +6,15 @@ use Rattle.std.proofs.lemmas.Int.{ints, to_z-of_z}
 use mir.Val.{to_z, of_z}
 
 -- a difference of held numbers fits where that of the numbers does
-pub difference_fits : (a b : ℤ) → FitsSigned w128 a → FitsSigned w128 b → FitsSigned w128 (a -ℤ b)
+pub difference-fits : (a b : ℤ) → FitsSigned w128 a → FitsSigned w128 b → FitsSigned w128 (a -ℤ b)
     → FitsSigned w128 (to_z w128 (of_z w128 a) -ℤ to_z w128 (of_z w128 b))
-difference_fits a b p q h = rw (to_z-of_z w128 a p, to_z-of_z w128 b q) h
+difference-fits a b p q h = rw (to_z-of_z w128 a p, to_z-of_z w128 b q) h
 
 -- and is held as it is
-pub difference_held : (r a b : ℤ) → FitsSigned w128 r → FitsSigned w128 a → FitsSigned w128 b
+pub difference-held : (r a b : ℤ) → FitsSigned w128 r → FitsSigned w128 a → FitsSigned w128 b
     → r ≡ to_z w128 (of_z w128 a) -ℤ to_z w128 (of_z w128 b) → to_z w128 (of_z w128 r) ≡ a -ℤ b
-difference_held r a b p q h e = to_z-of_z w128 r p ∙ e ∙ (λ i. to_z-of_z w128 a q i -ℤ to_z-of_z w128 b h i)
+difference-held r a b p q h e = to_z-of_z w128 r p ∙ e ∙ (λ i. to_z-of_z w128 a q i -ℤ to_z-of_z w128 b h i)
 
 -- a count with its sign is held as it is
-pub signed_held : (r : ℤ) (a n : ℕ) → r ≡ pos a → a ≡ n → a < 2 ^ 127 → to_z w128 (of_z w128 r) ≡ pos n
-signed_held r a n e f h = omega (arith, ints)
+pub signed-held : (r : ℤ) (a n : ℕ) → r ≡ pos a → a ≡ n → a < 2 ^ 127 → to_z w128 (of_z w128 r) ≡ pos n
+signed-held r a n e f h = omega (arith, ints)

@@ -1,4 +1,4 @@
--- Running statistics that are aged, or settled with a change, are those of what is stored then.
+-- Running statistics that are aged, or settled_stats with a change, are those of what is stored then.
 use Rattle.std.specs.Prelude.{◌≡◌, ℕ, ◌+◌, ◌≤◌, ℤ, pos, ◌+ℤ◌, ◌-ℤ◌, ◌*ℤ◌, ◌≤ℤ◌, List}
 use Rattle.std.proofs.Common.{sym, ◌∙◌, ap, subst, arith}
 use Rattle.std.proofs.lemmas.Int.{ints}
@@ -8,7 +8,7 @@ use Rattle.mvcc_key.specs.Field.{Field, KeyCount, KeyBytes, ValCount, ValBytes, 
 use Rattle.stat_core.specs.ComputeStats.{Sums, age, compute_stats, field, garbage_bytes, aged}
 use Rattle.stat_core.specs.Running.{Running}
 use Rattle.stat_core.specs.views.Seen.{number}
-use Rattle.stat_core.specs.Settling.{garbage, aged_number, settled_number, NoDebt, whole, whole_sums, aged_to, settled}
+use Rattle.stat_core.specs.Settling.{garbage, aged_number, settled_number, NoDebt, whole, whole_sums, aged_to, settled_stats}
 use Rattle.stat_core.specs.Laws.{AreOf, computed, IsChange}
 use Rattle.stat_core.specs.declared.group.Group.{Group}
 use Rattle.stat_core.proofs.BoundsLaws.{compute_stats-bounds}
@@ -96,8 +96,8 @@ settled_number-no_debt s before after fs gs delta now h up change =
     λ f. owes_nothing (settled_number s delta now f) (field f (compute_stats now after gs)) (settled_number-computes s before after fs gs delta now f h up change)
 
 pub settled-computes : (s : Running) (before after : List Pair) (fs gs : List Fragment) (delta : Group) (now : ℕ) → AreOf s before fs → s.last ≤ now
-    → IsChange delta now before after fs gs → settled s delta now ≡ computed s now after gs
-unfolding settled
+    → IsChange delta now before after fs gs → settled_stats s delta now ≡ computed s now after gs
+unfolding settled_stats
 settled-computes s before after fs gs delta now h up change =
     ap (λ t. record { sums = t; last = now; count_max = s.count_max })
     (whole_sums-is (settled_number s delta now) (compute_stats now after gs) (λ f. settled_number-computes s before after fs gs delta now f h up change))

@@ -7,7 +7,7 @@ use Rattle.stat_core.specs.ComputeStats.{age, field, overflowing, no_sums}
 use Rattle.stat_core.specs.views.Counters.{number_at, moved_by, changed_number, moved_number, AreCounted, IsFirstAbove}
 use Rattle.stat_core.specs.Running.{Running, sums_of}
 use Rattle.stat_core.specs.views.Seen.{number}
-use Rattle.stat_core.specs.Settling.{gain, NoDebt, raised_number, lowered_number, aged_number, settled_number, whole_sums, with_numbers, raised, lowered, aged_to, settled}
+use Rattle.stat_core.specs.Settling.{gain, NoDebt, raised_number, lowered_number, aged_number, settled_number, whole_sums, with_numbers, raised, lowered, aged_to, settled_stats}
 use Rattle.stat_core.specs.declared.counters.Sign.{Sign}
 use Rattle.stat_core.specs.declared.counters.Sign.TheVariants.{Plus, Minus}
 use Rattle.stat_core.specs.declared.group.Group.{Group}
@@ -93,7 +93,7 @@ pub moved-lowered : (s : Running) (gained numbers : List ℤ) (group : Group) �
 moved-lowered s gained numbers group none same f =
     none_less (pos (field f s.sums)) (number_at gained f) (number_at numbers f) (none f) ∙ ap (λ n. pos (field f s.sums) -ℤ n) (same f)
 
--- with the gain of a moment and a group's numbers more, settled ones
+-- with the gain of a moment and a group's numbers more, settled_stats ones
 pub moved-settled : (s : Running) (gained numbers : List ℤ) (group : Group) (now : ℕ) → ((f : Field) → number_at gained f ≡ gain s.sums (age now s.last) f)
     → ((f : Field) → number_at numbers f ≡ number f group) → (f : Field) → moved_number s gained numbers Plus f ≡ settled_number s group now f
 moved-settled s gained numbers group now more same f = λ i. (pos (field f s.sums) +ℤ more f i) +ℤ same f i
@@ -117,12 +117,12 @@ pub lowered-is : (s : Running) (m : Field → ℤ) (group : Group) → ((f : Fie
 unfolding lowered
 lowered-is s m group same = with_numbers-same s s.last m (lowered_number s group) same
 
-pub settled-is : (s : Running) (m : Field → ℤ) (group : Group) (now : ℕ) → ((f : Field) → m f ≡ settled_number s group now f) → with_numbers s now m ≡ settled s group now
-unfolding settled
+pub settled-is : (s : Running) (m : Field → ℤ) (group : Group) (now : ℕ) → ((f : Field) → m f ≡ settled_number s group now f) → with_numbers s now m ≡ settled_stats s group now
+unfolding settled_stats
 settled-is s m group now same = with_numbers-same s now m (settled_number s group now) same
 
-pub aged_to-is : (s : Running) (group : Group) (now : ℕ) → ((f : Field) → number f group ≡ pos 0) → settled s group now ≡ aged_to s now
-unfolding settled aged_to
+pub aged_to-is : (s : Running) (group : Group) (now : ℕ) → ((f : Field) → number f group ≡ pos 0) → settled_stats s group now ≡ aged_to s now
+unfolding settled_stats aged_to
 aged_to-is s group now none = with_numbers-same s now (settled_number s group now) (aged_number s now) (settled-aged s group now none)
 
 -- no gain
@@ -162,7 +162,7 @@ sub-is s last numbers group here same =
 
 -- and `settle`
 pub settle-is : (s r : Running) (gained numbers : List ℤ) (group : Group) (now : ℕ) → r ≡ s → ((f : Field) → number_at gained f ≡ gain r.sums (age now r.last) f)
-    → ((f : Field) → number_at numbers f ≡ number f group) → with_numbers s now (moved_number s gained numbers Plus) ≡ settled s group now
+    → ((f : Field) → number_at numbers f ≡ number f group) → with_numbers s now (moved_number s gained numbers Plus) ≡ settled_stats s group now
 settle-is s r gained numbers group now view more same =
     settled-is s (moved_number s gained numbers Plus) group now
     (moved-settled s gained numbers group now (λ f. more f ∙ ap (λ t. gain t.sums (age now t.last) f) view) same)

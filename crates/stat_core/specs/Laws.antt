@@ -11,7 +11,7 @@ use Rattle.stat_core.specs.DeadSince.{VersionShape}
 use Rattle.stat_core.specs.ComputeStats.{Sums, no_sums, ◌⊕◌, total, is_record, pairs_of, keys_of, KeyShape, key_shape, key_sums, sums_at, sums_of_fragment, compute_stats, compute_span, field, difference, aged, cut_correction}
 use Rattle.stat_core.specs.Running.{Running}
 use Rattle.stat_core.specs.views.Seen.{number}
-use Rattle.stat_core.specs.Settling.{NoDebt, aged_number, settled_number, aged_to, settled}
+use Rattle.stat_core.specs.Settling.{NoDebt, aged_number, settled_number, aged_to, settled_stats}
 use Rattle.stat_core.specs.declared.group.Group.{Group}
 
 -- the pairs of the other keys
@@ -152,11 +152,11 @@ abbrev pub IsChange : Group → ℕ → List Pair → List Pair → List Fragmen
 IsChange delta now before after fs gs =
     (f : Field) → number f delta ≡ difference (compute_stats now before fs) (compute_stats now after gs) f
 
--- running statistics that are settled with a change are those of the pairs and fragments after it
+-- running statistics that are settled_stats with a change are those of the pairs and fragments after it
 abbrev pub SettlingComputes : Type 0
 SettlingComputes =
     (s : Running) (before after : List Pair) (fs gs : List Fragment) (delta : Group) (now : ℕ) → AreOf s before fs → s.last ≤ now
-    → IsChange delta now before after fs gs → settled s delta now ≡ computed s now after gs
+    → IsChange delta now before after fs gs → settled_stats s delta now ≡ computed s now after gs
 
 -- and none of them is negative
 abbrev pub SettlingOwesNothing : Type 0

@@ -11,21 +11,21 @@ pub record Running : Type 0 where
   pub count_max : ℕ
 
 -- the place of a field in their order
-abbrev pub place_of : Field → ℕ
-place_of KeyCount = 0
-place_of KeyBytes = 1
-place_of ValCount = 2
-place_of ValBytes = 3
-place_of LiveCount = 4
-place_of LiveBytes = 5
-place_of IntentCount = 6
-place_of IntentBytes = 7
-place_of IntentAge = 8
-place_of GcBytesAge = 9
-place_of RangeKeyCount = 10
-place_of RangeKeyBytes = 11
-place_of RangeValCount = 12
-place_of RangeValBytes = 13
+abbrev pub field_index : Field → ℕ
+field_index KeyCount = 0
+field_index KeyBytes = 1
+field_index ValCount = 2
+field_index ValBytes = 3
+field_index LiveCount = 4
+field_index LiveBytes = 5
+field_index IntentCount = 6
+field_index IntentBytes = 7
+field_index IntentAge = 8
+field_index GcBytesAge = 9
+field_index RangeKeyCount = 10
+field_index RangeKeyBytes = 11
+field_index RangeValCount = 12
+field_index RangeValBytes = 13
 
 -- counters in the order of the fields, as statistics
 abbrev pub sums_of : List ℕ → Sums

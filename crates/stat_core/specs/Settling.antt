@@ -88,5 +88,5 @@ unfoldable pub aged_to : Running → ℕ → Running
 aged_to s now = with_numbers s now (aged_number s now)
 
 -- the statistics at a moment, with a group more
-unfoldable pub settled : Running → Group → ℕ → Running
-settled s group now = with_numbers s now (settled_number s group now)
+unfoldable pub settled_stats : Running → Group → ℕ → Running
+settled_stats s group now = with_numbers s now (settled_number s group now)

@@ -1,7 +1,7 @@
 //! The names of the bounded statistics, in their order.
 ghost use Rattle.std.specs.Prelude.{◌≡◌, ◌<◌, Some};
 ghost use Rattle.stat_core.specs.Names.{field_name, overflow_text};
-ghost use Rattle.stat_core.specs.Running.{place_of};
+ghost use Rattle.stat_core.specs.Running.{field_index};
 ghost use Rattle.stat_core.specs.views.Seen.{field_of};
 
 use std::error::Error;
@@ -48,7 +48,7 @@ impl Field {
     /// The field at this place of their order.
     pub(crate) fn at(place: usize) -> Field
         requires { place < 14 }
-        ensures { place_of (field_of result) ≡ place }
+        ensures { field_index (field_of result) ≡ place }
     {
         match place {
             0 => Field::KeyCount,

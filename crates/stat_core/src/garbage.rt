@@ -5,7 +5,7 @@ ghost use Rattle.std.specs.Option.{option_map};
 ghost use Rattle.mvcc_key.specs.Order.{newer_first};
 ghost use Rattle.mvcc_key.specs.views.Seen.{time_of};
 ghost use Rattle.stat_core.specs.DeadSince.{earlier, least_above, dead_since};
-ghost use Rattle.stat_core.specs.views.Seen.{version_of};
+ghost use Rattle.stat_core.specs.views.Seen.{version_shape_of};
 
 use crate::VersionShape;
 use mvcc_key::Timestamp;
@@ -36,7 +36,7 @@ pub(crate) fn dead_since(
     stack: &[Timestamp],
 ) -> Option<Timestamp>
     requires { IsStrictlySortedBy newer_first (map time_of stack.now) }
-    ensures { option_map time_of result ≡ dead_since (option_map time_of newer) (map time_of stack.now) (version_of version.now) }
+    ensures { option_map time_of result ≡ dead_since (option_map time_of newer) (map time_of stack.now) (version_shape_of version.now) }
 {
     if version.deletion {
         Some(version.ts)

@@ -2,7 +2,7 @@
 ghost use Rattle.std.specs.Prelude.{◌≡◌, ◌-ℤ◌, FitsSigned, slice_index_or, pos};
 ghost use Rattle.std.specs.Int.{w128};
 ghost use Rattle.mvcc_key.specs.Field.{Field};
-ghost use Rattle.stat_core.specs.Running.{place_of};
+ghost use Rattle.stat_core.specs.Running.{field_index};
 ghost use Rattle.stat_core.specs.views.Seen.{number};
 
 /// What some pairs add to the statistics, or by how much a change moves them: counts, bytes, and ages in byte seconds (of
@@ -81,7 +81,7 @@ impl Group {
 
     /// The numbers in the order of the fields.
     pub(crate) fn numbers(&self) -> [i128; 14]
-        ensures { (f : Field) → slice_index_or result (place_of f) (pos 0) ≡ number f self.now }
+        ensures { (f : Field) → slice_index_or result (field_index f) (pos 0) ≡ number f self.now }
     {
         [
             self.key_count,

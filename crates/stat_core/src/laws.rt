@@ -32,7 +32,7 @@ pub fn statistics_age()
     ensures no_debt { AgeingOwesNothing }
 {}
 
-/// Running statistics that are settled with what a change moves the statistics by are those of what is stored after it.
+/// Running statistics that are settled_stats with what a change moves the statistics by are those of what is stored after it.
 pub fn settling_follows()
     ensures running { SettlingComputes }
     ensures no_debt { SettlingOwesNothing }

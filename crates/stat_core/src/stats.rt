@@ -4,7 +4,7 @@ ghost use Rattle.mvcc_key.specs.Field as fields;
 ghost use Rattle.stat_core.specs.ComputeStats.{no_sums, overflowing};
 ghost use Rattle.stat_core.specs.views.Counters.{IsWithin, number_at, moved_number};
 ghost use Rattle.stat_core.specs.views.Seen.{refused_field};
-ghost use Rattle.stat_core.specs.Settling.{NoDebt, raised_number, lowered_number, aged_number, settled_number, whole_sums, with_numbers, raised, lowered, aged_to, settled};
+ghost use Rattle.stat_core.specs.Settling.{NoDebt, raised_number, lowered_number, aged_number, settled_number, whole_sums, with_numbers, raised, lowered, aged_to, settled_stats};
 
 use crate::counters::{Sign, changed, gains};
 use crate::seconds::seconds_between;
@@ -237,9 +237,9 @@ impl Stats {
         requires later { self.old.last ≤ now }
         requires range { now < 2 ^ 63 }
         requires no_debt { NoDebt (settled_number self.old delta.now now) }
-        ensures ok { OnOk result (self.new ≡ settled self.old delta.now now) }
+        ensures ok { OnOk result (self.new ≡ settled_stats self.old delta.now now) }
         ensures err { OnErr result (self.new ≡ self.old) }
-        ensures refused { refused_field result ≡ overflowing self.old.count_max (settled self.old delta.now now).sums }
+        ensures refused { refused_field result ≡ overflowing self.old.count_max (settled_stats self.old delta.now now).sums }
     {
         let gained = gains(&self.counts, seconds_between(self.last, now));
         self.change(&gained, &delta.numbers(), Sign::Plus, now)

@@ -6,7 +6,7 @@ ghost use Rattle.std.specs.Option.{option_map};
 ghost use Rattle.mvcc_key.specs.Order.{newer_first};
 ghost use Rattle.mvcc_key.specs.views.Seen.{time_of};
 ghost use Rattle.stat_core.specs.ComputeStats.{age, live_or_garbage, versions_sums, live_key};
-ghost use Rattle.stat_core.specs.views.Seen.{version_of};
+ghost use Rattle.stat_core.specs.views.Seen.{version_shape_of};
 ghost use Rattle.stat_core.specs.views.Tallies.{Counts};
 
 use crate::VersionShape;
@@ -57,7 +57,7 @@ impl Tally {
         requires lengths { AllByRecursion (λ v. v.value_len ≤ 2 ^ 25) versions.now }
         requires versions { length versions.now ≤ 2 ^ 60 }
         requires stack { IsStrictlySortedBy newer_first (map time_of stack.now) }
-        ensures value { Counts result (versions_sums now None (map time_of stack.now) (map version_of versions.now)) }
+        ensures value { Counts result (versions_sums now None (map time_of stack.now) (map version_shape_of versions.now)) }
         ensures val_within { result.val_bytes ≤ 2 ^ 25 * length versions.now }
         ensures live_within { result.live_bytes ≤ 33554444 * length versions.now }
         ensures age_within { result.gc_bytes_age ≤ 2 ^ 60 * length versions.now }

@@ -1,6 +1,6 @@
 //! What a planned write hands to the store and to its statistics.
 ghost use Rattle.std.specs.Prelude.{◌<◌, ◌^◌};
-ghost use Rattle.mem_table.specs.Entries.{IsBatch};
+ghost use Rattle.mvcc_key.specs.Batches.{IsBatch};
 ghost use Rattle.mvcc_key.specs.Field.{Field};
 ghost use Rattle.stat_core.specs.views.Counters.{IsWithin};
 ghost use Rattle.stat_core.specs.views.Seen.{number};

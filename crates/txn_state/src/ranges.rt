@@ -3,8 +3,7 @@ ghost use Rattle.std.specs.Prelude.{◌≡◌};
 ghost use Rattle.txn_state.specs.views.Seen.{ranges_of};
 ghost use Rattle.txn_state.specs.Transaction.{are_ranges};
 
-use crate::txn::MAX_COUNT;
-use mvcc_key::SeqRange;
+use mvcc_key::{MAX_COUNT, SeqRange};
 
 /// Whether each range ends no earlier than it begins, each begins above the end of the one before it, and no number is above
 /// the limit.

@@ -9,14 +9,11 @@ ghost use Rattle.txn_state.specs.Transaction.{begun, stepped, advanced, refreshe
 
 use crate::ranges::are_rising;
 use crate::{IgnoreFault, TxnFault, TxnId};
-use mvcc_key::{SeqRange, Timestamp};
+use mvcc_key::{MAX_COUNT, SeqRange, Timestamp};
 use smallvec::SmallVec;
 use std::alloc::Global;
 use std::marker::Model;
 use uuid::Uuid;
-
-/// The greatest epoch, and the greatest sequence: 2^31-1.
-pub(crate) const MAX_COUNT: u32 = (1 << 31) - 1;
 
 /// Up to how many ignored ranges a transaction takes no memory for them.
 pub const FEW_RANGES: usize = 4;

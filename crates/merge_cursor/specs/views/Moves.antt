@@ -1,9 +1,8 @@
 -- What a move makes of a place.
-use Rattle.std.specs.Prelude.{ℕ, ◌+◌, ◌-◌, Bool, false, ◌&&◌, List, length, min, nat_lt, nat_le, IsOk, ⊤, Option, Some, None, if◌then◌else◌}
+use Rattle.std.specs.Prelude.{ℕ, ◌+◌, ◌-◌, Bool, false, ◌&&◌, List, length, min, nat_lt, nat_le, ⊤, Option, Some, None, if◌then◌else◌}
 use Rattle.std.specs.Ordering.{is_lt, is_le}
 use Rattle.mvcc_key.specs.Order.{Name, name_cmp, is_same_name}
-use Rattle.mvcc_key.specs.KeyFormat.{name_of}
-use Rattle.mvcc_key.specs.Encoded.{name_in}
+use Rattle.mvcc_key.specs.Encoded.{name_in, IsName}
 use Rattle.mvcc_key.specs.views.Looks.{bits}
 use Rattle.mvcc_key.specs.Points.{Point, count_below}
 use Rattle.merge_cursor.specs.views.Standing.{Standing, head}
@@ -12,8 +11,8 @@ use Rattle.merge_cursor.specs.declared.moves.Move.TheVariants.{SeekGe, SeekLt, N
 
 -- what is sought is an encoded key
 abbrev pub IsSound : Move → Type 0
-IsSound (SeekGe key) = IsOk (name_of key.now)
-IsSound (SeekLt key) = IsOk (name_of key.now)
+IsSound (SeekGe key) = IsName key.now
+IsSound (SeekLt key) = IsName key.now
 IsSound Next = ⊤
 IsSound Prev = ⊤
 

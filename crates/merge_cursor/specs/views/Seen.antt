@@ -18,9 +18,9 @@ abbrev pub is_ahead : {C : Type 0} {B : _} → MergeCursor C B → Bool
 is_ahead m = m.ahead
 
 -- the merged points
-abbrev pub points_in : {C : Type 0} {B : _} → (C → List Point) → (C → ℕ) → (C → Bool) → MergeCursor C B → List Point
-points_in points place is_part m = merged (lists_of (standings points place is_part m.parts.items))
+abbrev pub shown_points : {C : Type 0} {B : _} → (C → List Point) → (C → ℕ) → (C → Bool) → MergeCursor C B → List Point
+shown_points points place is_part m = merged (lists_of (standings points place is_part m.parts.items))
 
 -- the place among them
-abbrev pub place_of : {C : Type 0} {B : _} → (C → List Point) → (C → ℕ) → (C → Bool) → MergeCursor C B → ℕ
-place_of points place is_part m = merged_place m.ahead (standings points place is_part m.parts.items) m.current
+abbrev pub shown_place : {C : Type 0} {B : _} → (C → List Point) → (C → ℕ) → (C → Bool) → MergeCursor C B → ℕ
+shown_place points place is_part m = merged_place m.ahead (standings points place is_part m.parts.items) m.current

@@ -86,7 +86,7 @@ abbrev pub has_name : Name → List Point → Bool
 has_name name points = list_any (λ p. is_same_name p.name name) points
 
 -- each part stands where the current one's point has it stand, and no newer part has that point's name
-pub record IsSettled (ahead : Bool) (parts : List Standing) (current : ℕ) : Type 0 where
+pub record IsAligned (ahead : Bool) (parts : List Standing) (current : ℕ) : Type 0 where
   pub within : current ≤ length parts
   pub some : current < length parts → IsSome (head_of (heads parts) current)
   pub each : parts ≡ positioned ahead (cut_of ahead (head_of (heads parts) current)) parts

@@ -1,14 +1,13 @@
 //! Operations on pairs, each above the one before it.
-ghost use Rattle.std.specs.Prelude.{◌≡◌, ◌<◌, ◌^◌, vec_len, IsOk};
+ghost use Rattle.std.specs.Prelude.{◌≡◌, ◌<◌, ◌^◌, vec_len};
 ghost use Rattle.mvcc_key.specs.Points.{IsRising, AreEncodable};
 ghost use Rattle.std.specs.Bool.{OnTrue};
 ghost use Rattle.std.specs.declared.cmp.Ordering.TheVariants.{Less};
 ghost use Rattle.mvcc_key.specs.Order.{name_cmp};
-ghost use Rattle.mvcc_key.specs.KeyFormat.{name_of};
-ghost use Rattle.mvcc_key.specs.Encoded.{name_in};
+ghost use Rattle.mvcc_key.specs.Encoded.{name_in, IsName};
 ghost use Rattle.mvcc_key.specs.views.SeenPoint.{points_of, AreNamed, IsAboveLast};
 
-use mvcc_key::{OutOfMemory, PointOp, SortedPairs, cmp_encoded, decode_key, head_in};
+use mvcc_key::{OutOfMemory, PointOp, SortedPairs, abbreviated_key, cmp_encoded, decode_key};
 use std::alloc::Global;
 use std::cmp::Ordering;
 
@@ -43,7 +42,7 @@ impl Listed {
 
 fn is_above_last(held: &[PointOp], key: &[u8]) -> bool
     requires held { AreNamed held.now }
-    requires key { IsOk (name_of key.now) }
+    requires key { IsName key.now }
     ensures { OnTrue result (IsAboveLast held.now key.now) }
 {
     match held.last() {
@@ -53,8 +52,8 @@ fn is_above_last(held: &[PointOp], key: &[u8]) -> bool
 }
 
 fn is_below(a: &[u8], b: &[u8]) -> bool
-    requires left { IsOk (name_of a.now) }
-    requires right { IsOk (name_of b.now) }
+    requires left { IsName a.now }
+    requires right { IsName b.now }
     ensures { OnTrue result (name_cmp (name_in a.now) (name_in b.now) ≡ Less) }
 {
     match cmp_encoded(a, b) {
@@ -78,8 +77,8 @@ impl SortedPairs for Listed {
         self.held[index].key.as_slice()
     }
 
-    fn head(&self, index: usize) -> u64 {
-        head_in(self.held[index].key.as_slice())
+    fn abbreviated_key(&self, index: usize) -> u64 {
+        abbreviated_key(self.held[index].key.as_slice())
     }
 
     fn value(&self, index: usize) -> Option<&[u8]> {

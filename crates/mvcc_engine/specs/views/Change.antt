@@ -1,20 +1,24 @@
 -- By how much a version on top of the newest one of its key changes the statistics: the versions behind that one count the same.
 use Rattle.std.specs.Prelude.{ℕ, ℤ, List, [], ◌∷◌, length, map, Option, Some, None}
-use Rattle.mvcc_key.specs.Order.{Key}
+use Rattle.mvcc_key.specs.Order.{Key, Pair}
 use Rattle.mvcc_key.specs.History.{Version}
 use Rattle.mvcc_key.specs.Field.{Field}
 use Rattle.stat_core.specs.DeadSince.{VersionShape, shape_of}
 use Rattle.stat_core.specs.ComputeStats.{Sums, no_sums, KeyShape, key_sums, difference}
-use Rattle.mvcc_engine.specs.StoredPairs.{stored_pair}
+use Rattle.intent_meta.specs.StoredPairs.{VersionOf, stored_pair}
 
 -- the newest version, where there is one, as a list
 abbrev pub front : Option Version → List Version
 front None = []
 front (Some v) = v ∷ []
 
+-- the pair that a version is stored as
+abbrev pub version_pair : Version → Pair
+version_pair v = stored_pair (VersionOf v)
+
 -- a version without its bytes
 abbrev pub shape : Version → VersionShape
-shape v = shape_of (stored_pair v)
+shape v = shape_of (version_pair v)
 
 -- what the statistics see of a key of this length that has these versions alone
 abbrev pub shape_of_key : ℕ → List VersionShape → KeyShape

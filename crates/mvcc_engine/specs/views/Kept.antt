@@ -3,7 +3,7 @@ use Rattle.std.specs.Prelude.{◌≡◌, ℕ, ◌≤◌, ◌^◌, List, length}
 use Rattle.std.specs.List.{AllByRecursion}
 use Rattle.mvcc_key.specs.History.{Version}
 use Rattle.stat_core.specs.Running.{Running}
-use Rattle.mvcc_engine.specs.StoredPairs.{stored_value}
+use Rattle.intent_meta.specs.StoredPairs.{stored_value}
 use Rattle.mvcc_engine.specs.views.Places.{history_of}
 use Rattle.mvcc_engine.specs.Step.{statistics}
 

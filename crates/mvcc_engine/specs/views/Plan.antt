@@ -3,7 +3,7 @@ use Rattle.std.specs.Prelude.{◌≡◌, ℕ, max, Bool, false, List, Ok}
 use Rattle.mvcc_key.specs.Lists.{put_in_order}
 use Rattle.mvcc_key.specs.Order.{Timestamp, Key, is_no_time}
 use Rattle.mvcc_key.specs.History.{Body, Version, version_cmp}
-use Rattle.mvcc_engine.specs.Write.{new_version, write}
+use Rattle.mvcc_engine.specs.views.Outside.{new_version, write}
 use Rattle.mvcc_engine.specs.Step.{State, Reply, statistics, parts_after, change}
 use Rattle.mvcc_engine.specs.views.Places.{history_of}
 use Rattle.mvcc_engine.specs.views.Stored.{IsShort}
@@ -29,4 +29,4 @@ pub record IsPlanned (s : State) (key : Key) (ts : Timestamp) (body : Body) (p :
   pub short : IsShort (new_version key ts body)
   pub kept : IsKept (moment s ts) (new_version key ts body)
   pub stats : p.stats ≡ record { sums = statistics (moment s ts) (history_of (after s key ts body)); last = moment s ts; count_max = s.count_max }
-  pub taken : (reply : Bool → Reply) → change s ts reply (write s.history key ts body) ≡ Ok (record { state = state_after s key ts body; reply = reply p.was_there })
+  pub taken : (reply : Bool → Reply) → change s reply (write s.history key ts body) ≡ Ok (record { state = state_after s key ts body; reply = reply p.was_there })

@@ -10,7 +10,7 @@ use Rattle.mvcc_engine.specs.declared.refusal.Refusal.TheVariants as refusal
 use Rattle.mvcc_engine.specs.declared.refusal.AgeFault.{AgeFault}
 use Rattle.mvcc_engine.specs.declared.refusal.AgeFault.TheVariants as fault
 
--- why a write is refused; want of memory is none of the reasons
+-- why a call is refused; want of memory is none of the reasons
 abbrev pub refusal_of : Refusal → Option refusals.Refusal
 refusal_of refusal.OutOfMemory = None
 refusal_of refusal.EmptyKey = Some refusals.EmptyKey
@@ -18,12 +18,13 @@ refusal_of (refusal.KeyTooLong length) = Some (refusals.KeyTooLong length)
 refusal_of (refusal.ValueTooLong length) = Some (refusals.ValueTooLong length)
 refusal_of refusal.BadTimestamp = Some refusals.BadTimestamp
 refusal_of (refusal.TooOld existing) = Some (refusals.TooOld (time_of existing))
+refusal_of (refusal.MomentTooEarly latest) = Some (refusals.MomentTooEarly latest)
 refusal_of (refusal.CountOverflow field) = Some (refusals.CountOverflow (field_of field))
 
--- why statistics are not aged
-abbrev pub fault_of : AgeFault → refusals.Refusal
-fault_of (fault.MomentTooEarly latest) = refusals.MomentTooEarly latest
-fault_of (fault.CountOverflow field) = refusals.CountOverflow (field_of field)
+-- the refusal that a fault of ageing is
+abbrev pub as_refusal : AgeFault → Refusal
+as_refusal (fault.MomentTooEarly latest) = refusal.MomentTooEarly latest
+as_refusal (fault.CountOverflow field) = refusal.CountOverflow field
 
 -- the refusal is this one, where it is one
 abbrev pub Tells : {A : Type 0} → Option refusals.Refusal → Result A refusals.Refusal → Type 0
@@ -38,7 +39,7 @@ Answers (Err why) reply old new answer = (new ≡ old) × Tells (refusal_of why)
 -- so is one that takes no memory
 abbrev pub AnswersAge : {A : Type 0} → Result A AgeFault → State → State → Result Stepped refusals.Refusal → Type 0
 AnswersAge (Ok done) old new answer = answer ≡ Ok (record { state = new; reply = Finished })
-AnswersAge (Err why) old new answer = (new ≡ old) × (answer ≡ Err (fault_of why))
+AnswersAge (Err why) old new answer = (new ≡ old) × Tells (refusal_of (as_refusal why)) answer
 
 -- so is one that only want of memory can refuse
 abbrev pub AnswersUnlessFull : {A : Type 0} → Result A OutOfMemory → (A → Reply) → State → State → Result Stepped refusals.Refusal → Type 0

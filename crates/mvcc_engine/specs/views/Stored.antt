@@ -6,7 +6,7 @@ use Rattle.mvcc_key.specs.Points.{Point}
 use Rattle.mvcc_key.specs.History.{Version, version_name}
 use Rattle.lsm_store.specs.Parts.{Part, first_parts}
 use Rattle.lsm_store.specs.Shown.{shown, parts_of}
-use Rattle.mvcc_engine.specs.StoredPairs.{stored_value}
+use Rattle.intent_meta.specs.StoredPairs.{stored_value}
 use Rattle.mvcc_engine.specs.views.Spelled.{spelled_body}
 
 -- the bytes that are set, where any are
@@ -15,21 +15,21 @@ bytes_in None = []
 bytes_in (Some bytes) = bytes
 
 -- the version that a point is
-abbrev pub version_of : Point → Version
-version_of p = record { key = p.name.key; ts = p.name.ts; local = no_time; body = spelled_body p.name.ts (bytes_in p.value) }
+abbrev pub stored_version : Point → Version
+stored_version p = record { key = p.name.key; ts = p.name.ts; local = no_time; body = spelled_body p.name.ts (bytes_in p.value) }
 
 -- the versions that points are
-abbrev pub versions_of : List Point → List Version
-versions_of points = map version_of points
+abbrev pub stored_versions : List Point → List Version
+stored_versions points = map stored_version points
 
 -- the point that a version is stored as
-abbrev pub point_of : Version → Point
-point_of v = record { name = version_name v; value = Some (stored_value v) }
+abbrev pub stored_point : Version → Point
+stored_point v = record { name = version_name v; value = Some (stored_value v) }
 
 -- the point is set at a timestamp, and its bytes spell its version
 pub record IsVersion (p : Point) : Type 0 where
   pub timed : is_no_time p.name.ts ≡ false
-  pub spelled : p.value ≡ Some (stored_value (version_of p))
+  pub spelled : p.value ≡ Some (stored_value (stored_version p))
 
 -- the point, where it is one of the key and set
 abbrev pub of_key : Key → Option Point → Option Point
@@ -53,4 +53,4 @@ nothing_held = record { versions = []; parts = first_parts }
 
 -- what the parts of a store hold
 abbrev pub held_in : List (List Point) → Held
-held_in lists = record { versions = versions_of (shown lists); parts = parts_of lists }
+held_in lists = record { versions = stored_versions (shown lists); parts = parts_of lists }

@@ -1,11 +1,10 @@
 -- What a change makes of a list of fragments.
-use Rattle.std.specs.Prelude.{◌≡◌, Bool, List, [], is_some, fold, if◌then◌else◌}
-use Rattle.mvcc_key.specs.Order.{Timestamp, is_same_time, Key}
+use Rattle.std.specs.Prelude.{◌≡◌, Bool, List, ◌&&◌}
+use Rattle.std.specs.Cmp.Lexicographic.{pointwise}
+use Rattle.mvcc_key.specs.Order.{Timestamp, Key, is_same_key}
 use Rattle.mvcc_key.specs.History.{RangeTombstone, with_tombstone}
-use Rattle.mvcc_key.specs.Fragments.{Fragment, fragments, stack_at, take_out}
+use Rattle.mvcc_key.specs.Fragments.{Fragment, fragments, is_same_stack, stack_at, take_out, tombstones_of}
 use Rattle.mvcc_key.specs.Pieces.{stack_with, stack_without}
-use Rattle.mvcc_key.specs.views.Seen.{time_of}
-use Rattle.mvcc_key.specs.declared.batch.RangeOp.{RangeOp}
 
 -- whichever tombstones the old list shows, the new one shows them with one more
 abbrev pub AddsTombstone : Key → Key → Timestamp → List Fragment → List Fragment → Type 0
@@ -27,16 +26,14 @@ PutsOver start end ts old new = (key : Key) → stack_at new key ≡ stack_with 
 abbrev pub TakesFrom : Key → Key → (Timestamp → Bool) → List Fragment → List Fragment → Type 0
 TakesFrom start end test old new = (key : Key) → stack_at new key ≡ stack_without start end test key (stack_at old key)
 
--- the tombstones after one operation more, which adds its own, or takes its span out of those at its timestamp
-abbrev pub with_operation : List RangeTombstone → RangeOp → List RangeTombstone
-with_operation tombstones op =
-    if is_some op.set then with_tombstone (record { start = op.start; end = op.end; ts = time_of op.ts }) tombstones
-    else take_out op.start op.end (λ t. is_same_time t.ts (time_of op.ts)) tombstones
+-- the fragments without the timestamps over the span that pass the test
+abbrev pub without_times : Key → Key → (Timestamp → Bool) → List Fragment → List Fragment
+without_times start end test fs = fragments (take_out start end (λ t. test t.ts) (tombstones_of fs))
 
--- the tombstones after the operations, each on what the one before it left
-abbrev pub tombstones_after : List RangeOp → List RangeTombstone
-tombstones_after = fold with_operation []
+-- the same bounds and the same stack
+abbrev pub is_same_fragment : Fragment → Fragment → Bool
+is_same_fragment f g = is_same_key f.start g.start && is_same_key f.end g.end && is_same_stack f.stack g.stack
 
--- whichever tombstones the old list shows, the new one shows them after the operation
-abbrev pub Applies : RangeOp → List Fragment → List Fragment → Type 0
-Applies op old new = (tombstones : List RangeTombstone) → old ≡ fragments tombstones → new ≡ fragments (with_operation tombstones op)
+-- the same fragments
+abbrev pub are_same_fragments : List Fragment → List Fragment → Bool
+are_same_fragments = pointwise is_same_fragment

@@ -4,7 +4,7 @@ use Rattle.std.specs.Option.{ForSome, option_map}
 use Rattle.mvcc_key.specs.Order.{Timestamp}
 use Rattle.mvcc_key.specs.views.Seen.{time_of}
 use Rattle.mvcc_key.specs.Encoded.{IsName, name_in}
-use Rattle.mvcc_key.specs.views.Heads.{IsHead}
+use Rattle.mvcc_key.specs.views.AbbreviatedKey.{IsAbbreviatedKey}
 use Rattle.mvcc_key.specs.Points.{Point}
 use Rattle.mvcc_key.specs.declared.timestamp.Timestamp.{Timestamp as Declared}
 use Rattle.run_block.specs.RunFormat.{RangeOp, Run}
@@ -39,12 +39,12 @@ points_in bytes places = map (point_in bytes) places
 abbrev pub ranges_in : List ℕ → List RangePlace → List RangeOp
 ranges_in bytes places = map (range_in bytes) places
 
--- the place is within the bytes, and its key is an encoded one with this head
+-- the place is within the bytes, and its key is an encoded one with this abbreviated key
 pub record IsPlaced (bytes : List ℕ) (p : PointPlace) : Type 0 where
   pub key : p.key.end ≤ length bytes
   pub value : ForSome p.value (λ v. v.end ≤ length bytes)
   pub name : IsName (piece_in bytes p.key)
-  pub head : IsHead (name_in (piece_in bytes p.key)).key p.head
+  pub abbreviated : IsAbbreviatedKey (name_in (piece_in bytes p.key)).key p.abbreviated_key
 
 -- the place is within the bytes
 pub record IsRangePlaced (bytes : List ℕ) (r : RangePlace) : Type 0 where

@@ -2,17 +2,17 @@
 use Rattle.std.specs.Prelude.{◌≡◌, ℕ, ◌^◌, ◌<◌, ◌≤◌, ℤ, pos, ◌+ℤ◌, ◌-ℤ◌, ◌≤ℤ◌, ◌<ℤ◌, List, length, slice_index, slice_index_or}
 use Rattle.mvcc_key.specs.Field.{Field}
 use Rattle.stat_core.specs.ComputeStats.{field}
-use Rattle.stat_core.specs.Running.{Running, place_of}
+use Rattle.stat_core.specs.Running.{Running, field_index}
 use Rattle.stat_core.specs.declared.counters.Sign.{Sign}
 use Rattle.stat_core.specs.declared.counters.Sign.TheVariants.{Plus, Minus}
 
 -- the counter of a field
 abbrev pub count_at : List ℕ → Field → ℕ
-count_at counts f = slice_index counts (place_of f)
+count_at counts f = slice_index counts (field_index f)
 
 -- the number of a field
 abbrev pub number_at : List ℤ → Field → ℤ
-number_at numbers f = slice_index_or numbers (place_of f) (pos 0)
+number_at numbers f = slice_index_or numbers (field_index f) (pos 0)
 
 -- from -2^n to 2^n
 pub record IsWithin (n : ℕ) (z : ℤ) : Type 0 where
@@ -41,4 +41,4 @@ pub record AreCounted (bound : ℕ) (numbers : Field → ℤ) (counts : List ℕ
 -- the first field whose number passes the bound
 pub record IsFirstAbove (bound : ℕ) (numbers : Field → ℤ) (f : Field) : Type 0 where
   pub above : pos bound <ℤ numbers f
-  pub before : (g : Field) → place_of g < place_of f → numbers g ≤ℤ pos bound
+  pub before : (g : Field) → field_index g < field_index f → numbers g ≤ℤ pos bound

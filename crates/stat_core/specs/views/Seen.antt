@@ -53,8 +53,8 @@ number RangeValCount g = g.range_val_count
 number RangeValBytes g = g.range_val_bytes
 
 -- a version without its bytes
-abbrev pub version_of : VersionShape → dead.VersionShape
-version_of v = record { ts = time_of v.ts; value_length = v.value_len; deletion = v.deletion }
+abbrev pub version_shape_of : VersionShape → dead.VersionShape
+version_shape_of v = record { ts = time_of v.ts; value_length = v.value_len; deletion = v.deletion }
 
 -- the shape of a key's group
 abbrev pub key_shape_of : GroupShape → KeyShape
@@ -62,7 +62,7 @@ key_shape_of g = record {
   key_length = g.key_len;
   record_length = g.record_len;
   intent = option_map time_of g.intent;
-  versions = map version_of g.versions;
+  versions = map version_shape_of g.versions;
   stack = map time_of g.stack;
 }
 
@@ -72,6 +72,6 @@ lent_shape_of g = record {
   key_length = g.key_len;
   record_length = g.record_len;
   intent = option_map time_of g.intent;
-  versions = map version_of g.versions.now;
+  versions = map version_shape_of g.versions.now;
   stack = map time_of g.stack.now;
 }

@@ -4,4 +4,4 @@ use Rattle.intent_meta.proofs.decoding.decode.Goals as goal
 
 pub returns-clause-spelled : goal.returns-clause-spelled
 returns-clause-spelled c =
-    rw c.of.ensures (IsRecordOf-record_in c.args.bytes.now (λ i. omega (arith, c.type_inv.bytes i)) c.in_ok-check.ensures)
+    rw c.over.ensures (IsRecordOf-record_in c.args.bytes.now (λ i. omega (arith, c.type_inv.bytes i)) c.in_ok-check.ensures)

@@ -10,7 +10,7 @@ pub returns-then-is_at : goal.returns-then-is_at
 returns-then-is_at g c =
     let key = c.args.op.now.key in
     let value = c.args.op.now.value in
-    let now = c.seek_ge.new.self in
+    let now = c.seek_ge.new.cursor in
     let points = g.C.Cursor.points now in
     let before = g.C.Cursor.points c.args.cursor.now in
     let place = g.C.Cursor.place now in
@@ -28,7 +28,7 @@ returns-then-is_at g c =
 pub returns-else-is_at : goal.returns-else-is_at
 returns-else-is_at g c =
     let key = c.args.op.now.key in
-    let now = c.seek_ge.new.self in
+    let now = c.seek_ge.new.cursor in
     let points = g.C.Cursor.points now in
     let before = g.C.Cursor.points c.args.cursor.now in
     let place = g.C.Cursor.place now in

@@ -1,14 +1,14 @@
 use Rattle.std.proofs.Common.{◌∙◌, sym, arith}
 use Rattle.std.proofs.lemmas.List.Filters.{FiltersInPlace-more_swap, FiltersInPlace-more_no}
-use Rattle.mem_table.specs.Entries.{IsStorable}
-use Rattle.lsm_store.proofs.FilterLaws.{at_rest}
+use Rattle.mvcc_key.specs.Batches.{IsStorable}
+use Rattle.lsm_store.proofs.FilterLaws.{rest-at}
 use Rattle.lsm_store.proofs.changing.retain_changes.Goals as goal
 use Rattle.lsm_store.proofs.changing.retain_changes.Goals.{then-changes, else-changes}
 
-pub changes-requires-clause-op : goal.changes-requires-clause-op
-changes-requires-clause-op c =
+pub changes-requires : goal.changes-requires
+changes-requires c =
     let at = c.loop-i.invariant in
-    (at_rest IsStorable c.args.ops.now.items c.loop-i.ops.items c.loop-i.i c.index.result.now c.requires at.rest at.long (omega arith) c.index.ensures).name
+    (rest-at IsStorable c.args.ops.now.items c.loop-i.ops.items c.loop-i.i c.index.result.now c.requires at.rest at.long (omega arith) c.index.ensures).name
 
 pub loop-i-preserved : goal.loop-i-preserved
 loop-i-preserved c =

@@ -5,9 +5,6 @@ use Rattle.lsm_store.specs.Shown.{shown}
 use Rattle.lsm_store.specs.views.Changing.{changes_points}
 use Rattle.lsm_store.proofs.changing.retain_changes.Given as goal
 
-abbrev pub ghosts-changes : goal.ghosts-changes
-ghosts-changes a = record { name = a.blank.name; parts = a.blank.parts }
-
 abbrev pub invariant-loop-i : goal.invariant-loop-i
 invariant-loop-i l =
     FiltersInPlace (λ op. changes_points (shown (l.table.points ∷ map (λ r. r.points) l.runs)) (point_of op)) l.initial.ops.items l.ops.items l.kept l.i

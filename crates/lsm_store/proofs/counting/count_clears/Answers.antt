@@ -18,7 +18,7 @@ loop-preserved g c =
     let points = c.next.ensures.same ∙ c.loop.invariant.points in
     let len : length (g.C.Cursor.points c.loop.cursor) ≡ c.args.count = ap length c.loop.invariant.points ∙ sym c.requires.count in
     let within : c.loop.counter < length (g.C.Cursor.points c.args.cursor.now) = omega (arith, c.loop-test.true, c.requires.count) in
-    let place : g.C.Cursor.place c.next.new.self ≡ c.loop.counter + 1 = omega (arith, c.next.ensures.place, c.loop.invariant.place, len, c.loop-test.true) in
+    let place : g.C.Cursor.place c.next.new.cursor ≡ c.loop.counter + 1 = omega (arith, c.next.ensures.place, c.loop.invariant.place, len, c.loop-test.true) in
     let more : c.if-is_none.clears ≡ c.loop.clears + cond c.is_none.result 1 0 =
     elim c.if-is_none.branch [
       | then-is_none w ↦ w.clears-is ∙ ap (λ (b : Bool). c.loop.clears + cond b 1 0) (sym w.if-is_none.true)
@@ -27,7 +27,7 @@ loop-preserved g c =
     record {
       points = points;
       place = place;
-      clears = clears-more _ _ (g.C.Cursor.place c.next.new.self) c.loop.counter c.loop.clears c.if-is_none.clears c.value.result c.is_none.result within points place
+      clears = clears-more _ _ (g.C.Cursor.place c.next.new.cursor) c.loop.counter c.loop.clears c.if-is_none.clears c.value.result c.is_none.result within points place
           c.value.ensures c.is_none.ensures c.loop.invariant.clears more;
       few = few-more c.is_none.result c.loop.clears c.if-is_none.clears c.loop.counter more c.loop.invariant.few;
     }

@@ -1,7 +1,7 @@
 use Rattle.std.proofs.Common.{rules, ◌≡◌, ℕ, ◌+◌, ◌<◌, List, [], ◌∷◌, ◌++◌, length, map, take, get_or, All, subst, ap, sym, ◌∙◌}
 use Rattle.std.proofs.lemmas.List.{map-append, map_more}
 use Rattle.std.proofs.lemmas.List.Elements.{All-more}
-use Rattle.mem_table.specs.Entries.{IsStoredPoint}
+use Rattle.mvcc_key.specs.Batches.{IsStoredPoint}
 use Rattle.run_block.specs.RunFormat.{Run}
 use Rattle.lsm_store.specs.views.Cursors.{points_at}
 use Rattle.lsm_store.specs.declared.part.PartCursor.{PartCursor}

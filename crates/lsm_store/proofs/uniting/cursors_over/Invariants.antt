@@ -1,5 +1,5 @@
 use Rattle.std.proofs.Common.{◌≡◌, map, take, All}
-use Rattle.mem_table.specs.Entries.{IsStoredPoint}
+use Rattle.mvcc_key.specs.Batches.{IsStoredPoint}
 use Rattle.lsm_store.specs.views.Cursors.{points_at, place_at}
 use Rattle.lsm_store.proofs.uniting.cursors_over.Given as goal
 

@@ -1,7 +1,7 @@
 use Rattle.std.proofs.Common.{List, ◌≡◌, ◌++◌, ◌∷◌, [], length, take, sym, subst, ap, ◌∙◌, arith}
 use Rattle.std.proofs.lemmas.List.{nil_from_length, length-take-le}
 use Rattle.mvcc_key.specs.declared.batch.PointOp.{PointOp}
-use Rattle.mem_table.specs.Entries.{AreEntries}
+use Rattle.mvcc_key.specs.Batches.{AreEntries}
 use Rattle.mem_table.specs.views.Places.{op_cmp, newest_ops, listed, AreNumbersOf}
 use Rattle.mvcc_key.proofs.SortedLaws.{in_order-same}
 use Rattle.mem_table.proofs.EntryLaws.{sorted-entries, entries-take, entries-front}

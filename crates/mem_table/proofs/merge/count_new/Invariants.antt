@@ -1,5 +1,5 @@
 use Rattle.std.proofs.Common.{◌≡◌, ◌≤◌, ◌+◌, ◌-◌, length, take}
-use Rattle.mem_table.specs.Entries.{AreEntries}
+use Rattle.mvcc_key.specs.Batches.{AreEntries}
 use Rattle.mem_table.specs.views.Places.{newest_ops, listed}
 use Rattle.mem_table.proofs.merge.count_new.Given as goal
 

@@ -1,17 +1,11 @@
-use Rattle.std.proofs.Common.{◌≡◌, ◌≢◌, ℕ, List, length, refl, ap, ◌∙◌, arith}
-use Rattle.std.specs.Prelude.{slice_get, Some, None, IsOk}
+use Rattle.std.proofs.Common.{◌≡◌, ◌≢◌, length, refl, ap, ◌∙◌, arith}
+use Rattle.std.specs.Prelude.{slice_get, Some, None}
 use Rattle.std.proofs.lemmas.Option.{slice_get_read}
-use Rattle.mvcc_key.specs.KeyFormat.{name_of}
 use Rattle.mvcc_key.specs.Encoded.{name_in}
-use Rattle.mvcc_key.specs.Points.{Point}
 use Rattle.merge_cursor.specs.views.Standing.{standings, heads, head_of, precedes}
 use Rattle.merge_cursor.proofs.LeadingLaws.{head_of-past}
-use Rattle.merge_cursor.proofs.HeadLaws.{head_of-part, length-heads, HasHead, has_head, no_head, head_name, leads-is}
+use Rattle.merge_cursor.proofs.HeadLaws.{head_of-part, length-heads, has_head, no_head, head_name, leads-is, head-IsName}
 use Rattle.merge_cursor.proofs.leading.leads.Goals as goal
-
--- an encoded key that was read
-read_ok : (points : List Point) (k : ℕ) (key : List ℕ) → HasHead points k key → IsOk (name_of key)
-read_ok points k key h = rw h.read refl
 
 pub returns-in_default : goal.returns-in_default
 returns-in_default g c =
@@ -36,12 +30,12 @@ returns-then-best-parts g c =
 pub comes_before-requires-clause-key : goal.comes_before-requires-clause-key
 comes_before-requires-clause-key g c =
     let x = c.index-parts-index.result in
-    read_ok _ _ _ (has_head (g.C.Cursor.points x) (g.C.Cursor.place x) c.in-Some.key.now (g.met.C.Cursor.encodable x) c.in-Some.ensures)
+    head-IsName (g.C.Cursor.points x) (g.C.Cursor.place x) c.in-Some.key.now (g.met.C.Cursor.encodable x) c.in-Some.ensures
 
 pub comes_before-requires-clause-other : goal.comes_before-requires-clause-other
 comes_before-requires-clause-other g c =
     let y = c.index-parts-best.result in
-    read_ok _ _ _ (has_head (g.C.Cursor.points y) (g.C.Cursor.place y) c.in-Some-key.other.now (g.met.C.Cursor.encodable y) c.in-Some-key.ensures)
+    head-IsName (g.C.Cursor.points y) (g.C.Cursor.place y) c.in-Some-key.other.now (g.met.C.Cursor.encodable y) c.in-Some-key.ensures
 
 pub returns-in-Some-key : goal.returns-in-Some-key
 returns-in-Some-key g c =

@@ -2,7 +2,7 @@ use Rattle.std.proofs.Common.{length, sym, ◌∙◌, arith}
 use Rattle.std.proofs.lemmas.List.{length-map}
 use Rattle.merge_cursor.specs.views.Standing.{standing, standings}
 use Rattle.merge_cursor.proofs.ShownLaws.{rising-standings}
-use Rattle.merge_cursor.proofs.StepLaws.{current_none, some_none, turns-back, stays-back, leaves-back, none_newer, turn-some, pass-some}
+use Rattle.merge_cursor.proofs.StepLaws.{current-none, some_none, turns-back, stays-back, leaves-back, none_newer, turn-some, pass-some}
 use Rattle.merge_cursor.proofs.step.go_back.Goals as goal
 
 pub returns-then-ahead-clause-parts : goal.returns-then-ahead-clause-parts
@@ -18,13 +18,13 @@ pub returns-then-current-parts-clause-parts : goal.returns-then-current-parts-cl
 returns-then-current-parts-clause-parts g c =
     let all = standings g.C.Cursor.points g.C.Cursor.place g.C.Cursor.is_part c.args.parts.now in
     let long = length-map c.args.parts.now (standing g.C.Cursor.points g.C.Cursor.place g.C.Cursor.is_part) in
-    stays-back c.args.ahead all c.args.current c.if-ahead.false (current_none all c.args.current (length c.args.parts.now) (sym long) c.if-current-parts.true) c.requires
+    stays-back c.args.ahead all c.args.current c.if-ahead.false (current-none all c.args.current (length c.args.parts.now) (sym long) c.if-current-parts.true) c.requires
 
 pub returns-then-current-parts-clause-some : goal.returns-then-current-parts-clause-some
 returns-then-current-parts-clause-some g c = λ some.
     let all = standings g.C.Cursor.points g.C.Cursor.place g.C.Cursor.is_part c.args.parts.now in
     let long = length-map c.args.parts.now (standing g.C.Cursor.points g.C.Cursor.place g.C.Cursor.is_part) in
-    absurd (some_none _ (current_none all c.args.current (length c.args.parts.now) (sym long) c.if-current-parts.true) some)
+    absurd (some_none _ (current-none all c.args.current (length c.args.parts.now) (sym long) c.if-current-parts.true) some)
 
 pub pass-requires-clause-newest : goal.pass-requires-clause-newest
 pass-requires-clause-newest g c = λ p at.

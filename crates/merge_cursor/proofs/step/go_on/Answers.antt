@@ -2,7 +2,7 @@ use Rattle.std.proofs.Common.{length, sym, ◌∙◌, arith}
 use Rattle.std.proofs.lemmas.List.{length-map}
 use Rattle.merge_cursor.specs.views.Standing.{standing, standings}
 use Rattle.merge_cursor.proofs.ShownLaws.{rising-standings}
-use Rattle.merge_cursor.proofs.StepLaws.{current_none, some_none, turns-on, stays-on, leaves-on, none_newer, leaves-looks, stays-looks, turn-some, pass-some}
+use Rattle.merge_cursor.proofs.StepLaws.{current-none, some_none, turns-on, stays-on, leaves-on, none_newer, leaves-looks, stays-looks, turn-some, pass-some}
 use Rattle.merge_cursor.proofs.step.go_on.Goals as goal
 
 pub returns-then-not-ahead-clause-parts : goal.returns-then-not-ahead-clause-parts
@@ -18,19 +18,19 @@ pub returns-then-current-parts-clause-parts : goal.returns-then-current-parts-cl
 returns-then-current-parts-clause-parts g c =
     let all = standings g.C.Cursor.points g.C.Cursor.place g.C.Cursor.is_part c.args.parts.now in
     let long = length-map c.args.parts.now (standing g.C.Cursor.points g.C.Cursor.place g.C.Cursor.is_part) in
-    stays-on c.args.ahead all c.args.current c.if-not-ahead.false (current_none all c.args.current (length c.args.parts.now) (sym long) c.if-current-parts.true) c.requires
+    stays-on c.args.ahead all c.args.current c.if-not-ahead.false (current-none all c.args.current (length c.args.parts.now) (sym long) c.if-current-parts.true) c.requires
 
 pub returns-then-current-parts-clause-some : goal.returns-then-current-parts-clause-some
 returns-then-current-parts-clause-some g c = λ some.
     let all = standings g.C.Cursor.points g.C.Cursor.place g.C.Cursor.is_part c.args.parts.now in
     let long = length-map c.args.parts.now (standing g.C.Cursor.points g.C.Cursor.place g.C.Cursor.is_part) in
-    absurd (some_none _ (current_none all c.args.current (length c.args.parts.now) (sym long) c.if-current-parts.true) some)
+    absurd (some_none _ (current-none all c.args.current (length c.args.parts.now) (sym long) c.if-current-parts.true) some)
 
 pub returns-then-current-parts-clause-looks : goal.returns-then-current-parts-clause-looks
 returns-then-current-parts-clause-looks g c = λ on are.
     let all = standings g.C.Cursor.points g.C.Cursor.place g.C.Cursor.is_part c.args.parts.now in
     let long = length-map c.args.parts.now (standing g.C.Cursor.points g.C.Cursor.place g.C.Cursor.is_part) in
-    stays-looks all c.args.current c.args.looks.now (current_none all c.args.current (length c.args.parts.now) (sym long) c.if-current-parts.true)
+    stays-looks all c.args.current c.args.looks.now (current-none all c.args.current (length c.args.parts.now) (sym long) c.if-current-parts.true)
 
 pub pass-requires-clause-newest : goal.pass-requires-clause-newest
 pass-requires-clause-newest g c = λ p at.

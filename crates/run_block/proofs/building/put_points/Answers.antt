@@ -1,13 +1,13 @@
 use Rattle.std.proofs.Common.{◌<◌, ◌^◌, ℕ, List, length, sym, subst}
 use Rattle.mvcc_key.specs.views.SeenPoint.{points_of}
-use Rattle.mem_table.specs.Entries.{IsStorable}
-use Rattle.run_block.proofs.AddingLaws.{short_key, points-taken, IsAdding-more}
+use Rattle.mvcc_key.specs.Batches.{IsStorable}
+use Rattle.run_block.proofs.AddingLaws.{short-key, points-taken, IsAdding-more}
 use Rattle.run_block.proofs.building.put_points.Goals as goal
 
 pub add_point-requires-clause-short : goal.add_point-requires-clause-short
 add_point-requires-clause-short c =
     let entry : IsStorable c.op-item.result = subst IsStorable (sym c.op-item.is) (c.requires.entries.storable c.loop-op.op-index c.op-item.result c.loop-op-test.true) in
-    subst (λ (v : List ℕ). length v < 2 ^ 32) (sym c.as_slice.ensures) (short_key c.op-item.result entry)
+    subst (λ (v : List ℕ). length v < 2 ^ 32) (sym c.as_slice.ensures) (short-key c.op-item.result entry)
 
 pub loop-op-preserved : goal.loop-op-preserved
 loop-op-preserved c =

@@ -5,8 +5,8 @@ use Rattle.run_block.specs.views.Places.{run_in}
 use Rattle.run_block.proofs.FormLaws.{read_bytes_are_of_run}
 use Rattle.run_block.proofs.parsing.parse.Goals as goal
 
-pub of-requires-clause-run : goal.of-requires-clause-run
-of-requires-clause-run c =
+pub new-requires-clause-run : goal.new-requires-clause-run
+new-requires-clause-run c =
     let bytes = c.args.bytes.now in
     let index = c.in_ok-index.index in
     let is : IsRunOf bytes (run_in bytes index) = read_bytes_are_of_run bytes (run_in bytes index) (λ i. omega (arith, c.type_inv.bytes i)) c.in_ok-index.ensures.run in
@@ -17,4 +17,4 @@ returns-clause-spelled c =
     let bytes = c.args.bytes.now in
     let index = c.in_ok-index.index in
     let is : IsRunOf bytes (run_in bytes index) = read_bytes_are_of_run bytes (run_in bytes index) (λ i. omega (arith, c.type_inv.bytes i)) c.in_ok-index.ensures.run in
-    ap run_bytes (c.of.ensures ∙ ap (λ (v : List ℕ). run_in v index) c.in-Ok.ensures.items) ∙ sym is.spelled
+    ap run_bytes (c.new.ensures ∙ ap (λ (v : List ℕ). run_in v index) c.in-Ok.ensures.items) ∙ sym is.spelled

@@ -2,7 +2,7 @@
 use Rattle.std.proofs.Common.{subst}
 use Rattle.std.specs.Io.KnownBytes.{Appends}
 use Rattle.io_edge.specs.Writing.{AppendsBeginning}
-use Rattle.script_run.proofs.TextLaws.{on_err}
+use Rattle.script_text.proofs.TextLaws.{on_err}
 use Rattle.script_run.proofs.GatherLaws.{written_part, written_beginning, written_beginning_part}
 use Rattle.script_run.proofs.answers.write_answers.Goals as goal
 

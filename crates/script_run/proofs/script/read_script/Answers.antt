@@ -2,7 +2,7 @@
 use Rattle.std.proofs.Common.{refl, ◌≡◌, ◌∙◌, ap, length, take, arith}
 use Rattle.std.proofs.lemmas.List.{take_at}
 use Rattle.script_run.specs.Promise.{read_size}
-use Rattle.script_run.proofs.TextLaws.{on_err}
+use Rattle.script_text.proofs.TextLaws.{on_err}
 use Rattle.script_run.proofs.ReadLaws.{nothing_given, read_failed, read_ended, read_more, length_more, read_lost}
 use Rattle.script_run.proofs.script.read_script.Goals as goal
 

@@ -4,7 +4,7 @@ use Rattle.std.proofs.lemmas.Int.{ints, to_z-of_z}
 use Rattle.stat_core.specs.views.Counters.{IsWithin, moved_by}
 use Rattle.stat_core.specs.views.Seen.{field_of}
 use Rattle.stat_core.specs.declared.counters.Sign.{Sign}
-use Rattle.stat_core.proofs.CounterLaws.{at_place, changed_at, changed_at-no_debt, first_above, all_counted, place-more, low-more}
+use Rattle.stat_core.proofs.CounterLaws.{at-place, changed_at, changed_at-no_debt, first-above, all-counted, place-more, low-more}
 use Rattle.stat_core.proofs.counters.changed.Goals as goal
 
 -- the number that the code forms at a place is that of the definition
@@ -23,13 +23,13 @@ here counts gained numbers sign i base b g n is =
 pub sum_of-base-requires : goal.sum_of-base-requires
 sum_of-base-requires c =
     let g : IsWithin 101 (slice_index_or c.args.gained.now c.loop-place.place (pos 0)) =
-    at_place (IsWithin 101) c.args.gained.now c.loop-place.place c.loop-place-test.true c.requires.gained in
+    at-place (IsWithin 101) c.args.gained.now c.loop-place.place c.loop-place-test.true c.requires.gained in
     record { low = omega (arith, ints, g.low, g.high); high = omega (arith, ints, g.low, g.high) }
 
 pub moved-requires-clause-no_debt : goal.moved-requires-clause-no_debt
 moved-requires-clause-no_debt c =
     let g : IsWithin 101 (slice_index_or c.args.gained.now c.loop-place.place (pos 0)) =
-    at_place (IsWithin 101) c.args.gained.now c.loop-place.place c.loop-place-test.true c.requires.gained in
+    at-place (IsWithin 101) c.args.gained.now c.loop-place.place c.loop-place-test.true c.requires.gained in
     subst (λ z. pos 0 ≤ℤ z)
     (sym (here c.args.counts.now c.args.gained.now c.args.numbers.now c.args.sign c.loop-place.place c.sum_of-base.result c.sum_of-base.ensures.within g (search rules) c.sum_of-base.ensures.value))
     (changed_at-no_debt c.args.counts.now c.args.gained.now c.args.numbers.now c.args.sign c.loop-place.place c.loop-place-test.true c.requires.no_debt)
@@ -37,8 +37,8 @@ moved-requires-clause-no_debt c =
 pub returns-in-None : goal.returns-in-None
 returns-in-None c =
     let g : IsWithin 101 (slice_index_or c.args.gained.now c.loop-place.place (pos 0)) =
-    at_place (IsWithin 101) c.args.gained.now c.loop-place.place c.loop-place-test.true c.requires.gained in
-    first_above c.args.bound c.args.counts.now c.args.gained.now c.args.numbers.now c.args.sign c.loop-place.next c.loop-place.place (field_of c.at.result) c.at.ensures
+    at-place (IsWithin 101) c.args.gained.now c.loop-place.place c.loop-place-test.true c.requires.gained in
+    first-above c.args.bound c.args.counts.now c.args.gained.now c.args.numbers.now c.args.sign c.loop-place.next c.loop-place.place (field_of c.at.result) c.at.ensures
     (subst (λ z. pos c.args.bound <ℤ z)
     (here c.args.counts.now c.args.gained.now c.args.numbers.now c.args.sign c.loop-place.place c.sum_of-base.result c.sum_of-base.ensures.within g (search rules) c.sum_of-base.ensures.value)
     c.in-None.ensures)
@@ -47,7 +47,7 @@ returns-in-None c =
 pub loop-place-preserved : goal.loop-place-preserved
 loop-place-preserved c =
     let g : IsWithin 101 (slice_index_or c.args.gained.now c.loop-place.place (pos 0)) =
-    at_place (IsWithin 101) c.args.gained.now c.loop-place.place c.loop-place-test.true c.requires.gained in
+    at-place (IsWithin 101) c.args.gained.now c.loop-place.place c.loop-place-test.true c.requires.gained in
     let within : c.loop-place.place < length c.loop-place.next = omega (arith, c.loop-place.invariant.long) in
     let is = here c.args.counts.now c.args.gained.now c.args.numbers.now c.args.sign c.loop-place.place c.sum_of-base.result c.sum_of-base.ensures.within g (search rules) c.sum_of-base.ensures.value in
     record {
@@ -59,5 +59,5 @@ loop-place-preserved c =
 
 pub returns : goal.returns
 returns c =
-    all_counted c.args.bound c.args.counts.now c.args.gained.now c.args.numbers.now c.args.sign c.loop-place.next c.loop-place.place c.loop-place.invariant.long (omega arith)
+    all-counted c.args.bound c.args.counts.now c.args.gained.now c.args.numbers.now c.args.sign c.loop-place.next c.loop-place.place c.loop-place.invariant.long (omega arith)
     c.loop-place.invariant.same c.loop-place.invariant.low

@@ -1,14 +1,14 @@
 use Rattle.std.proofs.Common.{◌≡◌, ℕ, ℤ, pos, ◌+ℤ◌, ◌≤ℤ◌, arith, rules, FitsSigned, to_z, of_z}
 use Rattle.std.specs.Int.{w128}
 use Rattle.std.proofs.lemmas.Int.{ints}
-use Rattle.stat_core.proofs.FieldLaws.{each_field}
+use Rattle.stat_core.proofs.FieldLaws.{each-field}
 use Rattle.stat_core.proofs.tests.all_covered.Goals as goal
 
 covered_held : (k n : ℕ) (z : ℤ) → FitsSigned w128 z → pos 0 ≤ℤ (pos k +ℤ to_z w128 (of_z w128 z)) → k ≡ n → pos 0 ≤ℤ (pos n +ℤ z)
 covered_held k n z fits h e = omega (arith, ints)
 
 pub returns : goal.returns
-returns g c = each_field _
+returns g c = each-field _
     (covered_held c.key_count.result c.args.stats.now.sums.key_count c.args.group.now.key_count (search rules) c.covered.ensures c.key_count.ensures)
     (covered_held c.key_bytes.result c.args.stats.now.sums.key_bytes c.args.group.now.key_bytes (search rules) c.covered-2.ensures c.key_bytes.ensures)
     (covered_held c.val_count.result c.args.stats.now.sums.val_count c.args.group.now.val_count (search rules) c.covered-3.ensures c.val_count.ensures)

@@ -6,7 +6,7 @@ use Rattle.mvcc_key.specs.Points.{Point}
 use Rattle.mvcc_key.specs.views.SeenPoint.{point_of, points_of}
 use Rattle.mvcc_key.specs.declared.batch.PointOp.{PointOp}
 use Rattle.mvcc_key.proofs.PointLaws.{sorted-rising}
-use Rattle.mem_table.specs.Entries.{AreEntries}
+use Rattle.mvcc_key.specs.Batches.{AreEntries}
 use Rattle.mem_table.specs.Table.{Table}
 use Rattle.lsm_store.specs.Shown.{shown}
 use Rattle.lsm_store.specs.views.Changing.{changes_points}
@@ -34,8 +34,8 @@ apply-requires c =
     let is = taken c.from_vec.result c.retain_changes.new.ops.items c.into_vec-ops.result.items c.args.batch.points table c.deref.result.now runs
     c.from_vec.ensures c.retain_changes.ensures c.into_vec-ops.ensures c.deref.ensures.value in
     record {
-      points = subst AreEntries (sym is) (entries-filter (changes_points (shown (lists_in table runs))) c.args.batch.points c.requires.points);
-      ranges = c.requires.ranges;
+      points = subst AreEntries (sym is) (entries-filter (changes_points (shown (lists_in table runs))) c.args.batch.points c.requires.batch.points);
+      ranges = c.requires.batch.ranges;
     }
 
 pub returns-clause-shown : goal.returns-clause-shown
@@ -46,7 +46,7 @@ returns-clause-shown c =
     c.from_vec.ensures c.retain_changes.ensures c.into_vec-ops.ensures c.deref.ensures.value in
     on_ok_weaker c.apply.result
     (λ h. shown-after (points_of c.args.batch.points) (points_of c.from_vec.result) table c.apply.new.self.points (map (λ (r : Run). r.points) runs) c.args.self.now
-    (sorted-rising (points_of c.args.batch.points) c.requires.points.rising)
+    (sorted-rising (points_of c.args.batch.points) c.requires.batch.points.rising)
     (ap points_of is ∙ points-filter (changes_points (shown (lists_in table runs))) c.args.batch.points)
     (ap (λ (t : Table). t.points) h) c.self.view_is)
     c.apply.ensures.ok
@@ -59,7 +59,7 @@ returns-clause-parts c =
     c.from_vec.ensures c.retain_changes.ensures c.into_vec-ops.ensures c.deref.ensures.value in
     on_ok_weaker c.apply.result
     (λ h. parts-after (points_of c.args.batch.points) (points_of c.from_vec.result) table c.apply.new.self.points (map (λ (r : Run). r.points) runs) c.args.self.now
-    (sorted-rising (points_of c.args.batch.points) c.requires.points.rising)
+    (sorted-rising (points_of c.args.batch.points) c.requires.batch.points.rising)
     (ap points_of is ∙ points-filter (changes_points (shown (lists_in table runs))) c.args.batch.points)
     (ap (λ (t : Table). t.points) h) c.self.view_is)
     c.apply.ensures.ok

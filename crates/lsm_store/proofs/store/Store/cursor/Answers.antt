@@ -6,4 +6,4 @@ use Rattle.lsm_store.proofs.store.Store.cursor.Goals as goal
 
 pub returns-clause-points : goal.returns-clause-points
 unfolding shown
-returns-clause-points c = c.of.ensures.points ∙ ap visible (c.over.ensures.points ∙ ap merged c.in_ok-cursors.ensures.points)
+returns-clause-points c = c.over-2.ensures.points ∙ ap visible (c.over.ensures.points ∙ ap merged c.in_ok-cursors.ensures.points)

@@ -1,9 +1,10 @@
 use Rattle.std.specs.Prelude.{List}
 use Rattle.mvcc_key.specs.declared.batch.PointOp.{PointOp}
-use Rattle.mem_table.specs.Entries.{AreEntries}
+use Rattle.mvcc_key.specs.Batches.{AreEntries}
+use Rattle.mvcc_key.proofs.BatchLaws.{encodable-entries}
 use Rattle.mem_table.specs.views.Places.{listed}
 use Rattle.mem_table.specs.views.Seen.{ops_held}
-use Rattle.mem_table.proofs.EntryLaws.{entries-either, entries-newest, encodable-entries}
+use Rattle.mem_table.proofs.EntryLaws.{entries-either, entries-newest}
 use Rattle.mem_table.proofs.sorted.SortedOps.apply.Goals as goal
 
 pub invariant_of-self : goal.invariant_of-self

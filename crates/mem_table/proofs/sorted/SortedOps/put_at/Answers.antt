@@ -2,10 +2,11 @@ use Rattle.std.proofs.Common.{[], ◌∷◌}
 use Rattle.std.specs.Prelude.{List}
 use Rattle.mvcc_key.specs.Encoded.{name_in}
 use Rattle.mvcc_key.specs.declared.batch.PointOp.{PointOp}
-use Rattle.mem_table.specs.Entries.{AreEntries}
+use Rattle.mvcc_key.specs.Batches.{AreEntries}
+use Rattle.mvcc_key.proofs.BatchLaws.{encodable-entries}
 use Rattle.mem_table.specs.views.Places.{listed}
 use Rattle.mem_table.specs.views.Seen.{ops_held}
-use Rattle.mem_table.proofs.EntryLaws.{entries-one, entries-either, entries-newest, encodable-entries}
+use Rattle.mem_table.proofs.EntryLaws.{entries-one, entries-either, entries-newest}
 use Rattle.mem_table.proofs.PlaceLaws.{seen-range}
 use Rattle.mem_table.proofs.sorted.SortedOps.put_at.Goals as goal
 

@@ -1,9 +1,9 @@
 use Rattle.std.proofs.Common.{subst, ap}
 use Rattle.std.specs.Prelude.{All}
-use Rattle.mem_table.specs.Entries.{IsStoredPoint}
+use Rattle.mvcc_key.specs.Batches.{IsStoredPoint}
+use Rattle.mvcc_key.proofs.BatchLaws.{stored-entries}
 use Rattle.mem_table.specs.views.Seen.{ops_held}
 use Rattle.mem_table.specs.Table.{Table}
-use Rattle.mem_table.proofs.EntryLaws.{stored-entries}
 use Rattle.mem_table.proofs.table.MemTable.cursor.Goals as goal
 
 pub returns-clause-stored : goal.returns-clause-stored

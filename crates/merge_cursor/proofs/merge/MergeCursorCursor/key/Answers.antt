@@ -14,7 +14,7 @@ returns-in_err-part g c =
     let m = c.args.self.now in
     let past : length m.parts.items ≤ m.current = (let le = c.in_err-part.ensures.lookup.3 in let same = ap length c.deref.ensures.value in omega arith) in
     ap (λ (o : Option (Bor (List _))). option_map (λ k. k.now) o) c.from_residual.ensures
-    ∙ sym (ap (option_map (λ (p : Point). encoded_name p.name)) (shown-none g.C.Cursor.points g.C.Cursor.place g.C.Cursor.is_part m.ahead m.parts.items m.current g.met.C.Cursor.rising m.settled past))
+    ∙ sym (ap (option_map (λ (p : Point). encoded_name p.name)) (shown-none g.C.Cursor.points g.C.Cursor.place g.C.Cursor.is_part m.ahead m.parts.items m.current g.met.C.Cursor.rising m.aligned past))
 
 pub returns : goal.returns
 returns g c =
@@ -23,4 +23,4 @@ returns g c =
     let shown = c.deref.result.now in
     let there : slice_get shown m.current ≡ Some x = slice_get_read shown (length shown) m.current x refl c.in_ok-part.ensures.lookup.3.0 c.in_ok-part.ensures.lookup.1 in
     let here : slice_get m.parts.items m.current ≡ Some x = ap (λ (xs : List _). slice_get xs m.current) (sym c.deref.ensures.value) ∙ there in
-    c.key.ensures ∙ sym (ap (option_map (λ (p : Point). encoded_name p.name)) (shown-part g.C.Cursor.points g.C.Cursor.place g.C.Cursor.is_part m.ahead m.parts.items m.current x g.met.C.Cursor.rising m.settled here))
+    c.key.ensures ∙ sym (ap (option_map (λ (p : Point). encoded_name p.name)) (shown-part g.C.Cursor.points g.C.Cursor.place g.C.Cursor.is_part m.ahead m.parts.items m.current x g.met.C.Cursor.rising m.aligned here))

@@ -1,7 +1,6 @@
 -- The newest version of a key is what a seek to its record finds.
 use Rattle.std.proofs.Common.{◌+◌, ap, ◌∙◌, subst}
 use Rattle.std.specs.Option.{option_map}
-use Rattle.mvcc_key.specs.KeyFormat.{name_of}
 use Rattle.mvcc_key.specs.Encoded.{known_name}
 use Rattle.mvcc_key.specs.Points.{count_below}
 use Rattle.lsm_store.specs.Shown.{shown}
@@ -10,10 +9,6 @@ use Rattle.mvcc_engine.specs.views.Places.{AreVersions, newest_version}
 use Rattle.mvcc_engine.specs.views.Change.{shape}
 use Rattle.mvcc_engine.proofs.StoredLaws.{AreVersions-points, newest-shape, newest-none}
 use Rattle.mvcc_engine.proofs.versions.Versions.newest_of.Goals as goal
-
-pub returns-in_err-sought-clause-versions : goal.returns-in_err-sought-clause-versions
-returns-in_err-sought-clause-versions c =
-    subst (λ h. AreVersions h.versions) c.self.view_is (AreVersions-points (shown c.self.inside.store) (sorted-shown c.self.inside.store) c.self.invariant)
 
 pub returns-in_err-cursor-clause-versions : goal.returns-in_err-cursor-clause-versions
 returns-in_err-cursor-clause-versions c =
@@ -30,13 +25,13 @@ returns-clause-versions c =
 pub returns-in-Some-clause-newest : goal.returns-in-Some-clause-newest
 returns-in-Some-clause-newest c =
     newest-shape c.args.key.now (shown c.self.inside.store) _ _ c.in-Some.version c.self.invariant
-    (c.in_ok-cursor.ensures.place ∙ ap (λ r. count_below (known_name r) (shown c.self.inside.store) + 1) (ap name_of c.as_slice.ensures.value ∙ c.in_ok-sought.ensures.read))
+    (c.in_ok-cursor.ensures.place ∙ ap (λ r. count_below (known_name r) (shown c.self.inside.store) + 1) c.requires.record_of)
     c.in_ok-cursor.ensures.points c.in-Some.ensures _ c.shape.ensures
     ∙ ap (λ h. option_map shape (newest_version c.args.key.now h.versions)) c.self.view_is
 
 pub returns-clause-newest : goal.returns-clause-newest
 returns-clause-newest c =
     newest-none c.args.key.now (shown c.self.inside.store) _ _ c.self.invariant
-    (c.in_ok-cursor.ensures.place ∙ ap (λ r. count_below (known_name r) (shown c.self.inside.store) + 1) (ap name_of c.as_slice.ensures.value ∙ c.in_ok-sought.ensures.read))
+    (c.in_ok-cursor.ensures.place ∙ ap (λ r. count_below (known_name r) (shown c.self.inside.store) + 1) c.requires.record_of)
     c.in_ok-cursor.ensures.points c.in-None.ensures
     ∙ ap (λ h. option_map shape (newest_version c.args.key.now h.versions)) c.self.view_is

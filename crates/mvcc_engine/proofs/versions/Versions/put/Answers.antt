@@ -5,7 +5,7 @@ use Rattle.mvcc_key.specs.Lists.{put_in_order}
 use Rattle.mvcc_key.specs.History.{version_cmp}
 use Rattle.mvcc_engine.specs.views.Places.{history_of}
 use Rattle.mvcc_engine.specs.Step.{parts_between}
-use Rattle.mvcc_engine.specs.views.Stored.{versions_of}
+use Rattle.mvcc_engine.specs.views.Stored.{stored_versions}
 use Rattle.mvcc_engine.proofs.StoredLaws.{put-versions, put-parts, put-invariant, OnOk-both}
 use Rattle.mvcc_engine.proofs.versions.Versions.put.Goals as goal
 
@@ -24,5 +24,5 @@ pub returns-clause-parts : goal.returns-clause-parts
 returns-clause-parts c =
     OnOk-both c.apply.result
     (λ is parts. put-parts c.self.inside.store c.apply.new.self _ c.args.version c.in_ok-batch.ensures.points c.into_batch.ensures.version c.requires.timed c.self.invariant is parts
-    ∙ ap (λ h. parts_between (history_of h.versions) (history_of (versions_of (shown c.apply.new.self))) h.parts) c.self.view_is)
+    ∙ ap (λ h. parts_between (history_of h.versions) (history_of (stored_versions (shown c.apply.new.self))) h.parts) c.self.view_is)
     c.apply.ensures.shown c.apply.ensures.parts

@@ -8,15 +8,15 @@ use Rattle.mvcc_key.specs.views.Seen.{time_of}
 use Rattle.lsm_store.specs.Shown.{shown}
 use Rattle.lsm_store.proofs.ApplyLaws.{sorted-shown}
 use Rattle.mvcc_engine.specs.views.Places.{history_of}
-use Rattle.mvcc_engine.specs.views.Stored.{versions_of}
-use Rattle.mvcc_engine.specs.Read.{get}
+use Rattle.mvcc_engine.specs.views.Stored.{stored_versions}
+use Rattle.mvcc_engine.specs.views.Outside.{get}
 use Rattle.mvcc_engine.proofs.StoredLaws.{AreVersions-points}
 use Rattle.mvcc_engine.proofs.RuleLaws.{get-none, get-found}
 use Rattle.mvcc_engine.proofs.versions.Versions.row_at.Goals as goal
 
 pub returns-then-is_none : goal.returns-then-is_none
 returns-then-is_none c =
-    get-none c.args.key.now (time_of c.args.ts) (versions_of (shown c.self.inside.store)) (sym c.is_none.ensures ∙ c.if-is_none.true)
+    get-none c.args.key.now (time_of c.args.ts) (stored_versions (shown c.self.inside.store)) (sym c.is_none.ensures ∙ c.if-is_none.true)
     (AreVersions-points (shown c.self.inside.store) (sorted-shown c.self.inside.store) c.self.invariant)
     ∙ ap (λ h. get (history_of h.versions) c.args.key.now (time_of c.args.ts)) c.self.view_is
 

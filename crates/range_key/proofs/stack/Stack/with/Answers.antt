@@ -16,7 +16,7 @@ returns c =
     let sorted : IsStrictlySortedBy newer_first (map time_of times) = subst (λ us. IsStrictlySortedBy newer_first (map time_of us)) (sym c.as_slice-times.ensures) c.self.invariant in
     let copied = c.in_ok-extend_from_slice.ensures.ok ∙ ap (λ us. us ++ times) c.in_ok-held.ensures.items in
     let seen = ap (λ us. put_in_order newer_first (time_of c.args.ts) (map time_of us)) c.as_slice-times.ensures ∙ ap (put_in_order newer_first (time_of c.args.ts)) c.self.view_is in
-    elim c.match-place_of.branch [
+    elim c.match-position_of.branch [
       | in-Err+in_ok-insert w ↦
           (let parted = w.in-Err.ensures.place (answers-rise time_of c.args.ts times sorted) in
           ap (λ v. map time_of v.items) w.held-is

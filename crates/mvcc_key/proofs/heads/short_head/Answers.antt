@@ -1,9 +1,0 @@
-use Rattle.std.proofs.Common.{◌∙◌}
-use Rattle.mvcc_key.proofs.HeadLaws.{head-padded}
-use Rattle.mvcc_key.proofs.heads.short_head.Goals as goal
-
-pub returns : goal.returns
-returns c =
-    let split = c.split_at_mut-front.ensures in
-    c.read_u64.ensures
-    ∙ head-padded c.args.key.now c.copy_from_slice.new.self c.split_at_mut-front.result.1.now c.copy_from_slice.ensures.after split.back c.requires split.back_len

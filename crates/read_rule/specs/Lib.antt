@@ -1,0 +1,4 @@
+pub mod Read
+pub mod Causes
+pub mod Laws
+pub mod views

@@ -1,0 +1,37 @@
+-- How contracts see what is shown.
+use Rattle.std.specs.Option.{option_map}
+use Rattle.mvcc_key.specs.Refusal as refusals
+use Rattle.mvcc_key.specs.views.Seen.{time_of}
+use Rattle.mvcc_value.specs.views.Seen.{found_of}
+use Rattle.stat_core.specs.views.Seen.{field_of}
+use Rattle.script_text.specs.Text as text
+use Rattle.script_text.specs.declared.answer.Refusal.{Refusal}
+use Rattle.script_text.specs.declared.answer.Refusal.TheVariants as refusal
+use Rattle.script_text.specs.declared.answer.Reason.{Reason}
+use Rattle.script_text.specs.declared.answer.Reason.TheVariants as reason
+use Rattle.script_text.specs.declared.answer.Answer.{Answer}
+use Rattle.script_text.specs.declared.answer.Answer.TheVariants as answer
+
+-- why the engine refuses a command
+abbrev pub refusal_of : Refusal → refusals.Refusal
+refusal_of refusal.EmptyKey = refusals.EmptyKey
+refusal_of (refusal.KeyTooLong length) = refusals.KeyTooLong length
+refusal_of (refusal.ValueTooLong length) = refusals.ValueTooLong length
+refusal_of refusal.BadTimestamp = refusals.BadTimestamp
+refusal_of (refusal.TooOld existing) = refusals.TooOld (time_of existing)
+refusal_of (refusal.MomentTooEarly latest) = refusals.MomentTooEarly latest
+refusal_of (refusal.CountOverflow field) = refusals.CountOverflow (field_of field)
+
+-- why a line is refused
+abbrev pub reason_of : Reason → text.Reason
+reason_of (reason.BadLine n) = text.BadLine n
+reason_of (reason.ByEngine why) = text.ByEngine (refusal_of why)
+
+-- what is shown
+abbrev pub answer_of : Answer → text.Answer
+answer_of answer.Accepted = text.Accepted
+answer_of (answer.Deleted found) = text.Deleted found
+answer_of (answer.Got key found) = text.Got key.now (option_map (λ f. found_of f.now) found)
+answer_of (answer.Statistics stats) = text.Statistics stats.now.sums stats.now.last
+answer_of (answer.LayoutLine index keys clears ranges) = text.LayoutLine index keys clears ranges
+answer_of (answer.Refused why) = text.Refused (reason_of why)

@@ -1,0 +1,12 @@
+pub mod EntryLaws
+pub mod BodyLaws
+pub mod IntentLaws
+pub mod WriteLaws
+pub mod ReplayLaws
+pub mod AlikeLaws
+pub mod ReadingLaws
+pub mod OwnLaws
+pub mod OpsLaws
+pub mod NewRecordLaws
+pub mod PlanLaws
+pub mod CauseLaws

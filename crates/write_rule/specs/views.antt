@@ -1,0 +1,5 @@
+-- Words that only contracts of the code need: how they view its values, and what holds inside.
+pub mod Seen
+pub mod Forming
+pub mod Own
+pub mod Points
