@@ -16,6 +16,7 @@ use Rattle.mvcc_key.proofs.TimeLaws.{before_differs}
 use Rattle.mvcc_key.proofs.SameKeyLaws.{differs_back}
 use Rattle.mvcc_key.proofs.ItemLaws.{HoldOfTimes, times_over-whole, times_over-parts, items-whole, items-parts}
 use Rattle.mvcc_key.proofs.HistoryLaws.{version_cmp-total, intent_cmp-total, items-with_intent}
+use Rattle.mvcc_key.proofs.FragmentPartsLaws.{chosen-has}
 use Rattle.intent_meta.specs.Valid.{IsStoredTime, IsStoredVersion, IsStoredTombstone, IsStoredIntent, HasOwnTime, IsValid, IsStoredBody, IsStoredEntry}
 use Rattle.intent_meta.proofs.AcceptedLaws.{IsGoodSpan}
 
@@ -183,18 +184,13 @@ stored_part start end ts time low high = by (is_below start end) refl
     by true e = (record { ts = time; span = e; start = low; end = high }, tt)
     by false e = tt
 
--- of two bounds that are not too long neither is the one that is chosen
-pub chosen_length : (b : Bool) (x y : Key) → length x ≤ max_bound_length → length y ≤ max_bound_length → length (cond b x y) ≤ max_bound_length
-chosen_length true x y h k = h
-chosen_length false x y h k = k
-
 -- what is left of a tombstone outside a span may be stored
 stored_outside : (start end : Key) (t : RangeTombstone) → length start ≤ max_bound_length → length end ≤ max_bound_length → IsStoredTombstone t
     → AllByRecursion IsStoredTombstone (outside start end t)
 stored_outside start end t low high s =
     All-append IsStoredTombstone (part t.start (lower_key t.end start) t.ts) (part (higher_key t.start end) t.end t.ts)
-    (stored_part t.start (lower_key t.end start) t.ts s.ts s.start (chosen_length (is_below start t.end) start t.end low s.end))
-    (stored_part (higher_key t.start end) t.end t.ts s.ts (chosen_length (is_below t.start end) end t.start high s.start) s.end)
+    (stored_part t.start (lower_key t.end start) t.ts s.ts s.start (chosen-has (λ k. length k ≤ max_bound_length) (is_below start t.end) start t.end low s.end))
+    (stored_part (higher_key t.start end) t.end t.ts s.ts (chosen-has (λ k. length k ≤ max_bound_length) (is_below t.start end) end t.start high s.start) s.end)
 
 -- so may what is left of some
 pub stored-take_out : (start end : Key) (test : RangeTombstone → Bool) (ts : List RangeTombstone) → length start ≤ max_bound_length → length end ≤ max_bound_length

@@ -17,8 +17,7 @@ use Rattle.mvcc_key.proofs.ByKeyLaws.{same_by_keys}
 use Rattle.mvcc_key.proofs.SameKeyLaws.{same_keys-tie}
 use Rattle.intent_meta.specs.StoredPairs.{provisional, RecordOf, VersionOf, stored_cmp, stored_pair, stored_pairs}
 use Rattle.intent_meta.specs.Valid.{IsValid}
-use Rattle.intent_meta.specs.KeyPairs.{KeyPairsAre, KeyPairsTell, key_pairs, is_pair_of}
-use Rattle.intent_meta.specs.LeftAlone.{AgreeAt}
+use Rattle.intent_meta.specs.KeyPairs.{KeyPairsAre, KeyPairsTell, key_pairs}
 use Rattle.intent_meta.proofs.StoredLaws.{stored_cmp-total, in_order-versions, OfVersion, IsPlaced}
 use Rattle.intent_meta.proofs.BlockLaws.{IsAbove, stored_of}
 use Rattle.intent_meta.proofs.ReadBackLaws.{versions_timed, intents_above, stored_pairs-rise}
@@ -112,7 +111,3 @@ key_pairs-are h key valid =
 pub key_pairs-tell : KeyPairsTell
 key_pairs-tell h pairs valid sorted each =
     same_by_keys (λ p. p.name.key) (on_total (λ p. p.name) name_cmp-total) pairs (stored_pairs h) sorted (stored_pairs-rise h) (λ key. each key ∙ sym (key_pairs-are h key valid))
-
--- a key at which two valid histories agree has the same pairs in both
-pub key_pairs-agree : (g h : History) (key : Key) → IsValid g → IsValid h → AgreeAt key g h → filter (is_pair_of key) (stored_pairs g) ≡ filter (is_pair_of key) (stored_pairs h)
-key_pairs-agree g h key valid valid' agree = key_pairs-are g key valid ∙ (λ k. key_pairs (agree.intent k) (agree.versions k)) ∙ sym (key_pairs-are h key valid')

@@ -154,7 +154,7 @@ body_stored : (i : Intent) → HasLast i → IsStoredBody (provisional_body i)
 body_stored i l = subst IsStoredBody (sym l.body) (l.stored).body
 
 -- the record of an intent keeps the rules of records
-IsRecord-intent : (h : History) (i : Intent) → IsStoredIntent h i → IsRecord (intent_record i)
+pub IsRecord-intent : (h : History) (i : Intent) → IsStoredIntent h i → IsRecord (intent_record i)
 IsRecord-intent h i stored =
     let l : HasLast i = has_last h i stored in
     record {

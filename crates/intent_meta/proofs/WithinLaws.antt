@@ -1,13 +1,13 @@
 -- The part of a history within a span: it agrees with the whole, is valid, and is read back from the span's pairs.
 use Rattle.std.proofs.Common.{◌≡◌, ◌-◌, ◌≤◌, Bool, true, false, cond, List, [], ◌∷◌, length, refl, sym, ap, ◌∙◌}
-use Rattle.std.specs.Prelude.{◌&&◌, not, map, filter, flat_map}
+use Rattle.std.specs.Prelude.{not, map, filter}
 use Rattle.std.specs.List.{AllByRecursion}
-use Rattle.mvcc_key.specs.Order.{Timestamp, Key, key_cmp, is_below, is_same_key, lower_key, higher_key, is_within}
+use Rattle.mvcc_key.specs.Order.{Timestamp, Key, is_below, is_within}
 use Rattle.mvcc_key.specs.History.{Version, RangeTombstone, History}
-use Rattle.mvcc_key.specs.Items.{covers, tombstones_over}
+use Rattle.mvcc_key.specs.Items.{tombstones_over}
 use Rattle.mvcc_key.specs.Limits.{max_bound_length}
 use Rattle.mvcc_key.specs.Canonical.{IsFragment, IsCanonical}
-use Rattle.mvcc_key.specs.Fragments.{Fragment, bounds, gaps, is_covered, is_same_stack, join_to, joined, fragments, stack_at, part_within, cut_to, take_out, tombstones_of}
+use Rattle.mvcc_key.specs.Fragments.{Fragment, fragments, stack_at, cut_to, take_out, tombstones_of}
 use Rattle.mvcc_key.specs.Pieces.{stack_without}
 use Rattle.mvcc_key.proofs.CanonicalLaws.{fragments-canonical}
 use Rattle.mvcc_key.proofs.PieceLaws.{canonical-pieces}
@@ -15,9 +15,9 @@ use Rattle.mvcc_key.proofs.StackLaws.{rest_canonical, first_fragment, stack_at-f
 use Rattle.mvcc_key.proofs.UniqueLaws.{stacks-tell}
 use Rattle.mvcc_key.proofs.SpanCutLaws.{stack_at-cut_to, cut_to-canonical}
 use Rattle.mvcc_key.proofs.TombstonesOfLaws.{tombstones_over-tombstones_of, fragments-tombstones_of}
-use Rattle.mvcc_key.proofs.EachLaws.{All-in_order, All-append, All-map, All-weaker, All-filter}
+use Rattle.mvcc_key.proofs.EachLaws.{All-append, All-map, All-weaker}
 use Rattle.mvcc_key.proofs.FilterLaws.{filter-follows, filter-every, filter-swap, length-parted}
-use Rattle.mvcc_key.proofs.ItemLaws.{times_over-whole}
+use Rattle.mvcc_key.proofs.FragmentPartsLaws.{TombstoneHas, FragmentHas, fragments-have, cut_to-has}
 use Rattle.intent_meta.specs.StoredPairs.{stored_pairs}
 use Rattle.intent_meta.specs.HistoryOf.{history_of}
 use Rattle.intent_meta.specs.Valid.{IsStoredTime, IsStoredTombstone}
@@ -26,7 +26,7 @@ use Rattle.intent_meta.specs.LeftAlone.{of_keys}
 use Rattle.intent_meta.proofs.ReadBackLaws.{history_of-stored_pairs}
 use Rattle.intent_meta.proofs.LeftAloneLaws.{stacks-take_out}
 use Rattle.intent_meta.proofs.AcceptedLaws.{IsGoodSpan, good_span}
-use Rattle.intent_meta.proofs.ChangedLaws.{fewer_versions-valid, fewer_intents-valid, fewer_times-valid, chosen_length}
+use Rattle.intent_meta.proofs.ChangedLaws.{fewer_versions-valid, fewer_intents-valid, fewer_times-valid}
 use Rattle.intent_meta.proofs.PairsLaws.{pairs_of_keys}
 
 -- histories that agree on some keys agree there without the versions that fail a test
@@ -99,75 +99,19 @@ fragments_agree start end h k a =
 
 -- ---- what fragments stand for may be stored
 
+-- bounds that are not too long
+abbrev IsShort : Key → Type 0
+IsShort k = length k ≤ max_bound_length
+
 -- bounds that are not too long, and timestamps that may be stored
-record IsStorable (f : Fragment) : Type 0 where
-  low : length f.start ≤ max_bound_length
-  high : length f.end ≤ max_bound_length
-  times : AllByRecursion IsStoredTime f.stack
-
--- the gaps between bounds
-storable_gaps : (ts : List RangeTombstone) (cuts : List Key) → AllByRecursion IsStoredTombstone ts → AllByRecursion (λ (c : Key). length c ≤ max_bound_length) cuts
-    → AllByRecursion IsStorable (gaps ts cuts)
-storable_gaps ts [] stored short = tt
-storable_gaps ts (a ∷ []) stored short = tt
-storable_gaps ts (a ∷ b ∷ cuts) stored short = (
-  record {
-    low = short.0;
-    high = short.1.0;
-    times = times_over-whole IsStoredTime ts a (All-weaker IsStoredTombstone (λ t. covers a t ≡ true → IsStoredTime t.ts) ts (λ t s c. s.ts) stored);
-  },
-  storable_gaps ts (b ∷ cuts) stored short.1,
-)
-
--- a fragment joined to others
-storable_join : (f : Fragment) (fs : List Fragment) → IsStorable f → AllByRecursion IsStorable fs → AllByRecursion IsStorable (join_to f fs)
-storable_join f [] s a = (s, tt)
-storable_join f (g ∷ gs) s a = by (is_same_key f.end g.start && is_same_stack f.stack g.stack)
-  where
-    by : (t : Bool) → AllByRecursion IsStorable (cond t (record { start = f.start; end = g.end; stack = f.stack } ∷ gs) (f ∷ g ∷ gs))
-    by true = (record { low = s.low; high = a.0.high; times = s.times }, a.1)
-    by false = (s, a)
-
--- fragments joined from the last on
-storable_joined : (fs : List Fragment) → AllByRecursion IsStorable fs → AllByRecursion IsStorable (joined fs)
-storable_joined [] a = tt
-storable_joined (f ∷ fs) a = storable_join f (joined fs) a.0 (storable_joined fs a.1)
-
--- the bounds of tombstones
-short_bounds : (ts : List RangeTombstone) → AllByRecursion IsStoredTombstone ts → AllByRecursion (λ (c : Key). length c ≤ max_bound_length) (flat_map (λ t. t.start ∷ t.end ∷ []) ts)
-short_bounds [] a = tt
-short_bounds (t ∷ ts) a =
-    All-append (λ (c : Key). length c ≤ max_bound_length) (t.start ∷ t.end ∷ []) (flat_map (λ u. u.start ∷ u.end ∷ []) ts) (a.0.start, (a.0.end, tt)) (short_bounds ts a.1)
+abbrev IsStorable : Fragment → Type 0
+IsStorable = FragmentHas IsShort IsStoredTime
 
 -- the fragments of tombstones that may be stored
 storable_fragments : (ts : List RangeTombstone) → AllByRecursion IsStoredTombstone ts → AllByRecursion IsStorable (fragments ts)
-unfolding fragments
 storable_fragments ts a =
-    storable_joined (filter is_covered (gaps ts (bounds ts)))
-    (All-filter IsStorable is_covered (gaps ts (bounds ts))
-    (storable_gaps ts (bounds ts) a
-    (All-in_order key_cmp (λ (c : Key). length c ≤ max_bound_length) (flat_map (λ t. t.start ∷ t.end ∷ []) ts) (short_bounds ts a))))
-
--- a fragment cut to a span
-storable_part : (start end : Key) (f : Fragment) → IsGoodSpan start end → IsStorable f → AllByRecursion IsStorable (part_within start end f)
-storable_part start end f good s = by (is_below (higher_key start f.start) (lower_key end f.end))
-  where
-    by : (t : Bool) → AllByRecursion IsStorable (cond t (record { start = higher_key start f.start; end = lower_key end f.end; stack = f.stack } ∷ []) [])
-    by true = (
-      record {
-        low = chosen_length (is_below start f.start) f.start start s.low good.start_length;
-        high = chosen_length (is_below f.end end) f.end end s.high good.end_length;
-        times = s.times;
-      },
-      tt,
-    )
-    by false = tt
-
--- so are several
-storable_cut : (start end : Key) (fs : List Fragment) → IsGoodSpan start end → AllByRecursion IsStorable fs → AllByRecursion IsStorable (cut_to start end fs)
-storable_cut start end [] good a = tt
-storable_cut start end (f ∷ fs) good a =
-    All-append IsStorable (part_within start end f) (cut_to start end fs) (storable_part start end f good a.0) (storable_cut start end fs good a.1)
+    fragments-have IsShort IsStoredTime ts
+    (All-weaker IsStoredTombstone (TombstoneHas IsShort IsStoredTime) ts (λ t s. record { start = s.start; end = s.end; ts = s.ts }) a)
 
 -- each of a canonical list is a fragment
 each_fragment : (fs : List Fragment) → IsCanonical fs → AllByRecursion IsFragment fs
@@ -181,7 +125,7 @@ stored_of (f ∷ fs) a b =
     All-append IsStoredTombstone (map (λ t. record { start = f.start; end = f.end; ts = t }) f.stack) (tombstones_of fs)
     (All-map IsStoredTombstone (λ t. record { start = f.start; end = f.end; ts = t }) f.stack
     (All-weaker IsStoredTime (λ t. IsStoredTombstone (record { start = f.start; end = f.end; ts = t })) f.stack
-    (λ t time. record { ts = time; span = a.0.span; start = b.0.low; end = b.0.high }) b.0.times))
+    (λ t time. record { ts = time; span = a.0.span; start = b.0.start; end = b.0.end }) b.0.times))
     (stored_of fs a.1 b.1)
 
 -- tombstones in the order of their fragments may be stored
@@ -193,7 +137,7 @@ pub stored_cut : (start end : Key) (ts : List RangeTombstone) → IsGoodSpan sta
     → AllByRecursion IsStoredTombstone (tombstones_of (cut_to start end (fragments ts)))
 stored_cut start end ts good a =
     stored_of (cut_to start end (fragments ts)) (each_fragment (cut_to start end (fragments ts)) (cut_to-canonical start end (fragments ts) (fragments-canonical ts)))
-    (storable_cut start end (fragments ts) good (storable_fragments ts a))
+    (cut_to-has IsShort IsStoredTime start end (fragments ts) good.start_length good.end_length (storable_fragments ts a))
 
 -- ---- the part of a valid history
 

@@ -1,5 +1,6 @@
 //! Intent records that are lent where they lie.
-ghost use Rattle.std.specs.Prelude.{◌≡◌, ℕ, IsOk, IfOk, IfSome, None, map, true, is_ok};
+ghost use Rattle.std.specs.Prelude.{◌≡◌, ℕ, IsOk, IfOk, IfSome, None, map, true, is_ok, ◌+◌, ◌≤◌, length, take, drop};
+ghost use Rattle.std.specs.Int.{w32, from_be_bytes};
 ghost use Rattle.std.specs.Option.{option_map};
 ghost use Rattle.mvcc_key.specs.Encoded.{IsBytes};
 ghost use Rattle.mvcc_key.specs.History.{entry_at, without_ignored};
@@ -58,14 +59,14 @@ impl<'a> IntentRef<'a> {
     pub fn epoch(&self) -> u32
         ensures { result ≡ (seen_intent self.now).epoch }
     {
-        read_u32(self.bytes.split_at(EPOCH).1)
+        self.number_at(EPOCH)
     }
 
     /// The sequence of the provisional value, at most 2^31-1.
     pub fn sequence(&self) -> u32
         ensures { result ≡ (seen_intent self.now).sequence }
     {
-        read_u32(self.bytes.split_at(SEQUENCE).1)
+        self.number_at(SEQUENCE)
     }
 
     /// The timestamp of the provisional version.
@@ -86,7 +87,7 @@ impl<'a> IntentRef<'a> {
     pub fn value_len(&self) -> u32
         ensures { result ≡ (seen_intent self.now).value_length }
     {
-        read_u32(self.bytes.split_at(VALUE_LEN).1)
+        self.number_at(VALUE_LEN)
     }
 
     /// The plain value that a read of its transaction sees at this sequence: that of the greatest sequence that is at most the
@@ -127,6 +128,14 @@ impl<'a> IntentRef<'a> {
         let value = provisional;
         EntryRef { sequence, value }.keep(alloc, ignored, &mut left)?;
         Ok(some_entries(left))
+    }
+
+    /// The number of 32 bits at a place.
+    fn number_at(&self, place: usize) -> u32
+        requires { place + 4 ≤ length self.now.bytes.now }
+        ensures { result ≡ from_be_bytes w32 (take 4 (drop place self.now.bytes.now)) }
+    {
+        read_u32(self.bytes.split_at(place).1)
     }
 
     /// The bytes of the history entries.

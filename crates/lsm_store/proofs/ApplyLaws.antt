@@ -9,7 +9,7 @@ use Rattle.mvcc_key.specs.Points.{Point, point_cmp}
 use Rattle.mvcc_key.specs.Lists.{in_order}
 use Rattle.mem_table.specs.Table.{state_of, newest_points}
 use Rattle.merge_cursor.specs.Merged.{joined, merged}
-use Rattle.lsm_store.specs.Shown.{shown, with_batch}
+use Rattle.lsm_store.specs.Shown.{visible_points, with_batch}
 use Rattle.lsm_store.specs.views.Changing.{is_same_value, is_change, changes_points}
 use Rattle.lsm_store.proofs.KnownLaws.{newer, keep, known-named, known-append, known-in_order, known-filter, AreSorted, sorted-in_order, sorted-filter, same-known}
 
@@ -32,13 +32,13 @@ ArePoints ps = AreSorted point_name ps
 -- ---- what is shown of a name
 
 -- what is shown rises
-pub sorted-shown : (lists : List (List Point)) → ArePoints (shown lists)
-unfolding shown merged
+pub sorted-shown : (lists : List (List Point)) → ArePoints (visible_points lists)
+unfolding visible_points merged
 sorted-shown lists = sorted-filter point_name is_set (in_order point_cmp (joined lists)) (sorted-in_order point_name (joined lists))
 
 -- and is the first state of each name, where that is set
-pub known-shown : (n : Name) (lists : List (List Point)) → state_of n (shown lists) ≡ keep is_set (state_of n (joined lists))
-unfolding shown merged
+pub known-shown : (n : Name) (lists : List (List Point)) → state_of n (visible_points lists) ≡ keep is_set (state_of n (joined lists))
+unfolding visible_points merged
 known-shown n lists =
     known-filter point_name n is_set (in_order point_cmp (joined lists)) (sorted-in_order point_name (joined lists))
     ∙ ap (keep is_set) (known-in_order point_name n (joined lists))
@@ -65,7 +65,7 @@ value-keep None = refl
 value-keep (Some p) = value-set p.name p.value
 
 -- what changes what is shown of a name changes its first state, and the other way round
-pub change-shown : (n : Name) (value : Option (List ℕ)) (lists : List (List Point)) → is_change value (state_of n (joined lists)) ≡ is_change value (state_of n (shown lists))
+pub change-shown : (n : Name) (value : Option (List ℕ)) (lists : List (List Point)) → is_change value (state_of n (joined lists)) ≡ is_change value (state_of n (visible_points lists))
 change-shown n value lists =
     ap (λ (v : Option (List ℕ)). not (is_same_value value v)) (sym (value-keep (state_of n (joined lists))) ∙ ap value_in (sym (known-shown n lists)))
 
@@ -136,12 +136,12 @@ known-kept n batch points sorted =
 
 -- what is shown after a batch
 pub shown-applied : (batch table : List Point) (runs : List (List Point)) → ArePoints batch
-    → shown (newest_points (filter (changes_points (shown (table ∷ runs))) batch ++ table) ∷ runs) ≡ with_batch batch (shown (table ∷ runs))
+    → visible_points (newest_points (filter (changes_points (visible_points (table ∷ runs))) batch ++ table) ∷ runs) ≡ with_batch batch (visible_points (table ∷ runs))
 shown-applied batch table runs sorted =
-    same-known point_name (shown (now ∷ runs)) (with_batch batch before) (sorted-shown (now ∷ runs)) (sorted-with_batch batch before) each
+    same-known point_name (visible_points (now ∷ runs)) (with_batch batch before) (sorted-shown (now ∷ runs)) (sorted-with_batch batch before) each
   where
     before : List Point
-    before = shown (table ∷ runs)
+    before = visible_points (table ∷ runs)
 
     kept : List Point
     kept = filter (changes_points before) batch
@@ -149,7 +149,7 @@ shown-applied batch table runs sorted =
     now : List Point
     now = newest_points (kept ++ table)
 
-    each : (n : Name) → state_of n (shown (now ∷ runs)) ≡ state_of n (with_batch batch before)
+    each : (n : Name) → state_of n (visible_points (now ∷ runs)) ≡ state_of n (with_batch batch before)
     each n =
         let first = state_of n (joined (table ∷ runs)) in
         let seen : state_of n before ≡ keep is_set first = known-shown n (table ∷ runs) in
@@ -166,9 +166,9 @@ shown-applied batch table runs sorted =
         ∙ sym (known-with_batch n batch before)
 
 -- the same, by the points that were taken up
-pub shown-after : (batch kept table now : List Point) (runs old : List (List Point)) → ArePoints batch → kept ≡ filter (changes_points (shown (table ∷ runs))) batch
-    → now ≡ newest_points (kept ++ table) → table ∷ runs ≡ old → shown (now ∷ runs) ≡ with_batch batch (shown old)
+pub shown-after : (batch kept table now : List Point) (runs old : List (List Point)) → ArePoints batch → kept ≡ filter (changes_points (visible_points (table ∷ runs))) batch
+    → now ≡ newest_points (kept ++ table) → table ∷ runs ≡ old → visible_points (now ∷ runs) ≡ with_batch batch (visible_points old)
 shown-after batch kept table now runs old sorted kept_is now_is old_is =
-    ap (λ (ps : List Point). shown (ps ∷ runs)) (now_is ∙ ap (λ (ps : List Point). newest_points (ps ++ table)) kept_is)
+    ap (λ (ps : List Point). visible_points (ps ∷ runs)) (now_is ∙ ap (λ (ps : List Point). newest_points (ps ++ table)) kept_is)
     ∙ shown-applied batch table runs sorted
-    ∙ ap (λ (lists : List (List Point)). with_batch batch (shown lists)) old_is
+    ∙ ap (λ (lists : List (List Point)). with_batch batch (visible_points lists)) old_is

@@ -9,13 +9,26 @@ use Rattle.std.proofs.lemmas.List.{map-append}
 use Rattle.std.proofs.lemmas.Slice.Eq.{bytes_eq-Decides}
 use Rattle.mvcc_key.specs.Order.{Name, is_same_name, Pair}
 use Rattle.mvcc_key.specs.Points.{Point, point_cmp}
-use Rattle.mem_table.specs.Table.{state_of, newest_points}
+use Rattle.mvcc_key.specs.Lists.{is_empty}
+use Rattle.mvcc_key.specs.Fragments.{Fragment}
+use Rattle.mvcc_key.specs.SameFragments.{are_same_fragments}
+use Rattle.mvcc_key.specs.RangeOperations.{RangeOp}
+use Rattle.mvcc_key.specs.views.SeenPoint.{points_of}
+use Rattle.mvcc_key.specs.views.SeenRange.{range_op_of, range_ops_of}
+use Rattle.mvcc_key.specs.declared.batch.Batch.{Batch}
+use Rattle.range_key.specs.RangeOps.{fragments_after}
+use Rattle.range_key.proofs.OperationLaws.{fragments_after-more}
+use Rattle.mem_table.specs.Table as tables
+use Rattle.mem_table.specs.Table.{Table, state_of, newest_points}
+use Rattle.run_block.specs.RunFormat.{Run}
 use Rattle.lsm_store.specs.Parts.{NameState, state_cmp, set_state, cleared_state, newest_states, has_pair, has_name, changes, after_batch}
-use Rattle.lsm_store.specs.Shown.{shown, with_batch, pairs_of, state_of_point, parts_of, part_of, stage_of}
+use Rattle.lsm_store.specs.Shown.{shown, points_in, fragments_in, with_batch, pairs_of, state_of_point, parts_of, stage_of}
+use Rattle.lsm_store.specs.views.Seen.{run_of_table}
 use Rattle.lsm_store.specs.views.Changing.{is_same_value, is_change, changes_points}
 use Rattle.lsm_store.proofs.KnownLaws.{newer, keep, passes, known, known-named, known-append, known-in_order, known-filter, known-behind, known-map, sorted-in_order, same-known, map-in_order}
 use Rattle.lsm_store.proofs.SoughtLaws.{same-test}
-use Rattle.lsm_store.proofs.ApplyLaws.{point_name, value_in, ArePoints, sorted-shown, value-keep, known-with_batch, known-kept, shown-applied}
+use Rattle.lsm_store.proofs.ApplyLaws.{point_name, value_in, ArePoints, sorted-shown, value-keep, known-with_batch, known-kept, shown-applied, shown-after}
+use Rattle.lsm_store.proofs.RangeLaws.{kept_ops, kept-after, kept-flag}
 
 -- ---- pairs and points
 
@@ -258,23 +271,63 @@ states-applied batch table before after sorted sorted_before sorted_after is =
         ∙ sym (known-append state_name n changed old)
         ∙ sym (known-in_order state_name n (changed ++ old))
 
+-- the memory table with a batch's points, and with its range operations where they are kept
+abbrev pub table_with : List Point → Bool → List RangeOp → Run → Run
+table_with kept b ops table = record { points = newest_points (kept ++ table.points); ranges = table.ranges ++ kept_ops b ops }
+
+-- the fragments after a batch
+pub fragments-applied : (kept : List Point) (ops : List RangeOp) (b : Bool) (table : Run) (runs : List Run)
+    → b ≡ not (are_same_fragments (fragments_in (table ∷ runs)) (fragments_after (fragments_in (table ∷ runs)) ops))
+    → fragments_in (table_with kept b ops table ∷ runs) ≡ fragments_after (fragments_in (table ∷ runs)) ops
+fragments-applied kept ops b table runs is =
+    fragments_after-more (fragments_in runs) table.ranges (kept_ops b ops) ∙ kept-after (fragments_in (table ∷ runs)) ops b is
+
 -- the parts after a batch
-pub parts-applied : (batch table : List Point) (runs : List (List Point)) → ArePoints batch
-    → let now : List (List Point) = newest_points (filter (changes_points (shown (table ∷ runs))) batch ++ table) ∷ runs in
+parts-applied : (batch : List Point) (ops : List RangeOp) (b : Bool) (table : Run) (runs : List Run) → ArePoints batch
+    → b ≡ not (are_same_fragments (fragments_in (table ∷ runs)) (fragments_after (fragments_in (table ∷ runs)) ops))
+    → let now : List Run = table_with (filter (changes_points (shown (table ∷ runs))) batch) b ops table ∷ runs in
     parts_of now ≡ after_batch (stage_of (table ∷ runs)) (stage_of now) (parts_of (table ∷ runs))
 unfolding parts_of after_batch
-parts-applied batch table runs sorted =
+parts-applied batch ops b table runs sorted is =
     let before : List Point = shown (table ∷ runs) in
-    let now : List (List Point) = newest_points (filter (changes_points before) batch ++ table) ∷ runs in
-    ap (λ (states : List NameState). record { states = states; ranges = false; closing = [] } ∷ map part_of runs)
-    (states-applied batch table before (shown now) sorted (sorted-shown (table ∷ runs)) (sorted-shown now) (shown-applied batch table runs sorted))
+    let now : List Run = table_with (filter (changes_points before) batch) b ops table ∷ runs in
+    let states = states-applied batch table.points before (shown now) sorted (sorted-shown (points_in (table ∷ runs))) (sorted-shown (points_in now))
+    (shown-applied batch table.points (points_in runs) sorted) in
+    let flag : not (is_empty (table.ranges ++ kept_ops b ops)) ≡ (not (is_empty table.ranges) || not (are_same_fragments (fragments_in (table ∷ runs)) (fragments_in now))) =
+    kept-flag (fragments_in (table ∷ runs)) table.ranges ops b is
+    ∙ ap (λ (fs : List Fragment). not (is_empty table.ranges) || not (are_same_fragments (fragments_in (table ∷ runs)) fs))
+    (sym (fragments_after-more (fragments_in runs) table.ranges (kept_ops b ops))) in
+    λ i. record { states = states i; ranges = flag i; closing = fragments_in now } ∷ parts_of runs
 
 -- the same, by the points that were taken up
-pub parts-after : (batch kept table now : List Point) (runs old : List (List Point)) → ArePoints batch → kept ≡ filter (changes_points (shown (table ∷ runs))) batch
-    → now ≡ newest_points (kept ++ table) → table ∷ runs ≡ old → parts_of (now ∷ runs) ≡ after_batch (stage_of old) (stage_of (now ∷ runs)) (parts_of old)
-parts-after batch kept table now runs old sorted kept_is now_is old_is =
-    let applied : List Point = newest_points (filter (changes_points (shown (table ∷ runs))) batch ++ table) in
-    let is : now ≡ applied = now_is ∙ ap (λ (ps : List Point). newest_points (ps ++ table)) kept_is in
-    let After : List Point → Type 0 = λ ps. parts_of (ps ∷ runs) ≡ after_batch (stage_of old) (stage_of (ps ∷ runs)) (parts_of old) in
-    subst After (sym is)
-    (parts-applied batch table runs sorted ∙ ap (λ (lists : List (List Point)). after_batch (stage_of lists) (stage_of (applied ∷ runs)) (parts_of lists)) old_is)
+pub parts-after : (batch kept : List Point) (ops : List RangeOp) (b : Bool) (table now : Run) (runs old : List Run) → ArePoints batch
+    → kept ≡ filter (changes_points (shown (table ∷ runs))) batch
+    → b ≡ not (are_same_fragments (fragments_in (table ∷ runs)) (fragments_after (fragments_in (table ∷ runs)) ops))
+    → now ≡ table_with kept b ops table → table ∷ runs ≡ old → parts_of (now ∷ runs) ≡ after_batch (stage_of old) (stage_of (now ∷ runs)) (parts_of old)
+parts-after batch kept ops b table now runs old sorted kept_is is now_is old_is =
+    let applied : Run = table_with (filter (changes_points (shown (table ∷ runs))) batch) b ops table in
+    let same : now ≡ applied = now_is ∙ ap (λ (ps : List Point). table_with ps b ops table) kept_is in
+    let After : Run → Type 0 = λ r. parts_of (r ∷ runs) ≡ after_batch (stage_of old) (stage_of (r ∷ runs)) (parts_of old) in
+    subst After (sym same)
+    (parts-applied batch ops b table runs sorted is ∙ ap (λ (parts : List Run). after_batch (stage_of parts) (stage_of (applied ∷ runs)) (parts_of parts)) old_is)
+
+-- what is shown, by the points that were taken up
+pub shown-batch : (batch kept : List Point) (ops : List RangeOp) (b : Bool) (table now : Run) (runs old : List Run) → ArePoints batch
+    → kept ≡ filter (changes_points (shown (table ∷ runs))) batch → now ≡ table_with kept b ops table → table ∷ runs ≡ old
+    → shown (now ∷ runs) ≡ with_batch batch (shown old)
+shown-batch batch kept ops b table now runs old sorted kept_is now_is old_is =
+    shown-after batch kept table.points now.points (points_in runs) (points_in old) sorted kept_is (ap (λ (r : Run). r.points) now_is) (ap points_in old_is)
+
+-- the fragments, by the operations that were taken up
+pub fragments-batch : (kept : List Point) (ops : List RangeOp) (b : Bool) (table now : Run) (runs old : List Run)
+    → b ≡ not (are_same_fragments (fragments_in (table ∷ runs)) (fragments_after (fragments_in (table ∷ runs)) ops))
+    → now ≡ table_with kept b ops table → table ∷ runs ≡ old → fragments_in (now ∷ runs) ≡ fragments_after (fragments_in old) ops
+fragments-batch kept ops b table now runs old is now_is old_is =
+    ap (λ (r : Run). fragments_in (r ∷ runs)) now_is ∙ fragments-applied kept ops b table runs is ∙ ap (λ (parts : List Run). fragments_after (fragments_in parts) ops) old_is
+
+-- the table after a batch, as a run
+pub table-after : (batch : Batch) (old new : Table) → new ≡ tables.after_batch batch old
+    → run_of_table new ≡ record { points = newest_points (points_of batch.points ++ old.points); ranges = range_ops_of old.ranges ++ range_ops_of batch.ranges }
+table-after batch old new is =
+    ap run_of_table is
+    ∙ (λ i. record { points = newest_points (points_of batch.points ++ old.points); ranges = map-append range_op_of old.ranges batch.ranges i })

@@ -7,8 +7,12 @@ use Rattle.std.specs.Option.{option_and_then, option_map}
 use Rattle.std.proofs.lemmas.List.{take_all, length-map}
 use Rattle.mvcc_key.specs.Points.{Point, value_at}
 use Rattle.mvcc_key.proofs.PointLaws.{point_at-next}
-use Rattle.lsm_store.specs.Parts.{NameState, part_shape}
-use Rattle.lsm_store.specs.Shown.{state_of_point, part_of}
+use Rattle.mvcc_key.specs.Lists.{is_empty}
+use Rattle.mvcc_key.specs.Fragments.{Fragment}
+use Rattle.run_block.specs.RunFormat.{Run}
+use Rattle.lsm_store.specs.Parts as parts
+use Rattle.lsm_store.specs.Parts.{NameState, part_shape, layout}
+use Rattle.lsm_store.specs.Shown.{state_of_point, part_of, parts_of, fragments_in}
 
 -- the point is cleared
 abbrev pub is_clear : Point → Bool
@@ -72,10 +76,17 @@ clears-states (p ∷ ps) = by (is_clear p) (clears-states ps)
     by true rest = ap suc rest
     by false rest = rest
 
--- what is shown of a part
-pub shape-counted : (ps : List Point) (keys clears : ℕ) → keys ≡ length ps → clears ≡ length (filter is_clear ps)
-    → record { keys = keys; clears = clears; ranges = false } ≡ part_shape (part_of ps)
-shape-counted ps keys clears is_keys is_clears =
-    let names : keys ≡ length (map state_of_point ps) = is_keys ∙ sym (length-map ps state_of_point) in
-    let cleared = is_clears ∙ sym (clears-states ps) in
-    λ i. record { keys = names i; clears = cleared i; ranges = false }
+-- what is shown of a run
+abbrev pub run_shape : Run → parts.PartShape
+run_shape r = record { keys = length r.points; clears = length (filter is_clear r.points); ranges = not (is_empty r.ranges) }
+
+-- what is shown of it as a part
+shape-run : (r : Run) (closing : List Fragment) → run_shape r ≡ part_shape (part_of r closing)
+shape-run r closing =
+    λ i. record { keys = sym (length-map r.points state_of_point) i; clears = sym (clears-states r.points) i; ranges = not (is_empty r.ranges) }
+
+-- what is shown of all parts
+pub shapes-parts : (runs : List Run) → map run_shape runs ≡ layout (parts_of runs)
+unfolding parts_of
+shapes-parts [] = refl
+shapes-parts (r ∷ rs) = λ i. shape-run r (fragments_in (r ∷ rs)) i ∷ shapes-parts rs i

@@ -1,7 +1,10 @@
 pub mod KnownLaws
 pub mod SoughtLaws
 pub mod ApplyLaws
+pub mod RangeLaws
+pub mod StorableLaws
 pub mod ChangeLaws
+pub mod TakenLaws
 pub mod OneLaws
 pub mod FilterLaws
 pub mod TimeLaws

@@ -1,3 +1,4 @@
 pub mod Parts
+pub mod FileParts
 pub mod Shown
 pub mod views

@@ -1,12 +1,12 @@
 -- The parts of a store: the memory table and the runs, newest first, by what each of them names.
 use Rattle.std.specs.Prelude.{ℕ, ◌-◌, Bool, true, false, ◌&&◌, ◌||◌, not, List, [], ◌∷◌, ◌++◌, length, take, drop, map, filter, flat_map, bytes_eq, nat_lt, if◌then◌else◌}
 use Rattle.std.specs.List.{list_any}
-use Rattle.std.specs.Cmp.Lexicographic.{pointwise}
 use Rattle.std.specs.declared.cmp.Ordering.{Ordering}
 use Rattle.std.specs.Ordering.{on}
 use Rattle.mvcc_key.specs.Lists.{in_order, is_empty}
-use Rattle.mvcc_key.specs.Order.{Name, name_cmp, is_same_name, is_same_key, Pair}
-use Rattle.mvcc_key.specs.Fragments.{Fragment, is_same_stack}
+use Rattle.mvcc_key.specs.Order.{Name, name_cmp, is_same_name, Pair}
+use Rattle.mvcc_key.specs.Fragments.{Fragment}
+use Rattle.mvcc_key.specs.SameFragments.{are_same_fragments}
 
 -- what a part says of a name: it is set, or cleared
 pub record NameState : Type 0 where
@@ -60,14 +60,6 @@ abbrev pub changes : List Pair → List Pair → List NameState
 changes before after =
     map (λ p. set_state p.name) (filter (λ p. not (has_pair before p)) after)
     ++ map (λ p. cleared_state p.name) (filter (λ p. not (has_name after p)) before)
-
--- the same bounds and the same stack
-abbrev pub is_same_fragment : Fragment → Fragment → Bool
-is_same_fragment f g = is_same_key f.start g.start && is_same_key f.end g.end && is_same_stack f.stack g.stack
-
--- the same fragments
-abbrev pub are_same_fragments : List Fragment → List Fragment → Bool
-are_same_fragments = pointwise is_same_fragment
 
 -- pairs and fragments before and after a command
 pub record Stage : Type 0 where

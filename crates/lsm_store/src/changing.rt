@@ -10,7 +10,7 @@ ghost use Rattle.mvcc_key.specs.Batches.{IsStorable};
 ghost use Rattle.mem_table.specs.views.Places.{IsPlaceOf};
 ghost use Rattle.mem_table.specs.Table.{state_of};
 ghost use Rattle.merge_cursor.specs.Merged.{joined};
-ghost use Rattle.lsm_store.specs.Shown.{shown};
+ghost use Rattle.lsm_store.specs.Shown.{visible_points};
 ghost use Rattle.lsm_store.specs.views.Changing.{is_same_value, is_change, changes_points};
 
 use mem_table::{MemPlace, MemTable};
@@ -20,7 +20,7 @@ use run_block::Run;
 /// Keeps the operations that change what the parts show, in their order. This takes no memory.
 pub(crate) fn retain_changes(ops: &mut Vec<PointOp>, table: &MemTable, runs: &[Run])
     requires { All IsStorable ops.old.items }
-    ensures { let points = shown (table.now.points ∷ map (λ r. r.points) runs.now) in
+    ensures { let points = visible_points (table.now.points ∷ map (λ r. r.points) runs.now) in
         ops.new.items ≡ filter (λ op. changes_points points (point_of op)) ops.old.items }
 {
     let mut kept = 0;
@@ -36,7 +36,7 @@ pub(crate) fn retain_changes(ops: &mut Vec<PointOp>, table: &MemTable, runs: &[R
 /// Whether the operation changes what is seen of its name: the newest part that knows the name decides.
 fn changes(table: &MemTable, runs: &[Run], op: &PointOp) -> bool
     requires { IsName op.now.key }
-    ensures { let points = shown (table.now.points ∷ map (λ r. r.points) runs.now) in
+    ensures { let points = visible_points (table.now.points ∷ map (λ r. r.points) runs.now) in
         result ≡ changes_points points (point_of op.now) }
 {
     let place = table.find(op.key.as_slice());
@@ -47,7 +47,7 @@ fn changes(table: &MemTable, runs: &[Run], op: &PointOp) -> bool
 pub(crate) fn changes_at(table: &MemTable, place: MemPlace, runs: &[Run], op: &PointOp) -> bool
     requires op { IsName op.now.key }
     requires place { IsPlaceOf (name_in op.now.key) table.now.points place }
-    ensures { let points = shown (table.now.points ∷ map (λ r. r.points) runs.now) in
+    ensures { let points = visible_points (table.now.points ∷ map (λ r. r.points) runs.now) in
         result ≡ changes_points points (point_of op.now) }
 {
     match table.value_at(place) {

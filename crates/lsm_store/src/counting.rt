@@ -1,22 +1,20 @@
 //! What is counted in one walk of a part's cursor.
 ghost use Rattle.std.specs.Prelude.{◌≡◌, ◌<◌, length, filter, not, is_some};
-ghost use Rattle.lsm_store.specs.Parts.{part_shape};
-ghost use Rattle.lsm_store.specs.Shown.{part_of};
 ghost use Rattle.lsm_store.specs.views.Seen.{seen_shape};
 
 use crate::PartShape;
 use mvcc_key::{Cursor, next};
 
-/// What is shown of a part with so many names.
-pub(crate) fn shape_of<C: Cursor>(cursor: &mut C, count: usize) -> PartShape
+/// What is shown of a part with so many names, and with range operations or without.
+pub(crate) fn shape_of<C: Cursor>(cursor: &mut C, count: usize, ranges: bool) -> PartShape
     requires start { C.place cursor.old ≡ 0 }
     requires count { count ≡ length (C.points cursor.old) }
-    ensures { seen_shape result ≡ part_shape (part_of (C.points cursor.old)) }
+    ensures { seen_shape result ≡ record { keys = count; clears = length (filter (λ p. not (is_some p.value)) (C.points cursor.old)); ranges = ranges } }
 {
     PartShape {
         keys: count as u64,
         clears: count_clears(cursor, count),
-        ranges: false,
+        ranges,
     }
 }
 

@@ -1,41 +1,56 @@
 //! The store of parts.
-ghost use Rattle.std.specs.Prelude.{◌≡◌, ◌≤◌, [], ◌∷◌, map, All, false, IsOk, IfOk, OnOk, OnErr};
+ghost use Rattle.std.specs.Prelude.{◌≡◌, ◌≤◌, [], ◌∷◌, map, All, false, not, IsOk, IfOk, OnOk, OnErr, if◌then◌else◌};
 ghost use Rattle.mvcc_key.specs.views.SeenPoint.{point_of, points_of};
-ghost use Rattle.mvcc_key.specs.Batches.{IsBatch, HasPointsAlone, IsStorable};
+ghost use Rattle.mvcc_key.specs.views.SeenRange.{range_ops_of};
+ghost use Rattle.mvcc_key.specs.Batches.{AreEntries, IsBatch, IsStorable};
+ghost use Rattle.mvcc_key.specs.SameFragments.{are_same_fragments};
+ghost use Rattle.range_key.specs.RangeOps.{fragments_after};
 ghost use Rattle.lsm_store.specs.Parts.{after_batch, flushed, compacted, layout};
-ghost use Rattle.lsm_store.specs.Shown.{no_points, shown, with_batch, parts_of, stage_of};
+ghost use Rattle.lsm_store.specs.FileParts.{with_run};
+ghost use Rattle.lsm_store.specs.Shown.{first_runs, points_in, shown, with_batch, fragments_in, part_of, parts_of, stage_of};
 ghost use Rattle.lsm_store.specs.views.Changing.{changes_points};
 ghost use Rattle.lsm_store.specs.views.Seen.{seen_shape};
 
 use crate::changing::{changes_at, retain_changes};
-use crate::counting::{entries_len, shape_of};
+use crate::closing::{close_table, run_of};
+use crate::counting::shape_of;
+use crate::ranges::{stage_ops, stage_run};
 use crate::uniting::unite;
 use crate::{PartCursor, PartShape, StoreCursor};
 use mem_table::MemTable;
 use merge_cursor::{MergeCursor, VisibleCursor};
-use mvcc_key::{Batch, Cursor, Elements, OutOfMemory, PointOp};
-use run_block::{Room, Run, collect};
+use mvcc_key::{Batch, Cursor, Elements, OutOfMemory, PointOp, RangeOp};
+use range_key::{FragmentsRef, StagedFragments};
+use run_block::Run;
 use std::alloc::Global;
 use std::marker::Model;
 
 /// Stored pairs in parts: a memory table, which takes up what is written, and under it sorted runs, from the newest to the
-/// oldest (Pebble's memtable and sstables). Of each name the newest part counts. Contracts see it as the points of its parts,
-/// the memory table's first.
+/// oldest (Pebble's memtable and sstables). Of each name the newest part counts, and the range operations of a part come after
+/// those of all older parts. The fragments that all of them give are kept beside the parts. Contracts see the store as the runs
+/// that its parts are, the memory table first.
 #[derive(Drop)]
 pub struct Store {
     alloc: Global,
     table: MemTable,
     /// From the newest to the oldest.
     runs: Vec<Run>,
+    /// What the range operations of all parts give.
+    fragments: StagedFragments,
 }
 
 impl Model for Store {
-    ghost use Rattle.std.specs.Prelude.{List, ◌∷◌, map};
-    ghost use Rattle.mvcc_key.specs.Points.{Point};
+    ghost use Rattle.std.specs.Prelude.{◌≡◌, List, ◌∷◌};
+    ghost use Rattle.range_key.specs.views.Stages.{settled};
+    ghost use Rattle.run_block.specs.RunFormat.{Run};
+    ghost use Rattle.lsm_store.specs.Shown.{fragments_in};
+    ghost use Rattle.lsm_store.specs.views.Seen.{run_of_table};
 
-    ghost Value = { List (List Point) };
+    ghost Value = { List Run };
 
-    ghost view = { λ s. s.table.points ∷ map (λ r. r.points) s.runs.items };
+    ghost view = { λ s. run_of_table s.table ∷ s.runs.items };
+
+    ghost invariant = { λ s. s.fragments ≡ settled (fragments_in (run_of_table s.table ∷ s.runs.items)) };
 }
 
 impl Store {
@@ -43,33 +58,48 @@ impl Store {
 
     /// A store that holds nothing. This takes no memory.
     pub fn new(alloc: Global) -> Store
-        ensures { result ≡ no_points }
+        ensures { result ≡ first_runs }
     {
         Store {
             alloc,
             table: MemTable::new(alloc),
             runs: Vec::new(alloc),
+            fragments: StagedFragments::new(alloc),
         }
     }
 
     /// Takes a batch up, whole or, where memory is wanting, not at all. Each name whose pair differs then has its new state in the
-    /// memory table; operations that leave what is seen as it is are dropped. The batch has no range operation yet.
+    /// memory table, and point operations that leave what is seen as it is are dropped. The range operations are all taken up where
+    /// together they change the fragments, and else are all dropped. A batch without range operations does no work on fragments.
     pub fn apply(&mut self, batch: Batch) -> Result<(), OutOfMemory>
-        requires batch { IsBatch batch }
-        requires points { HasPointsAlone batch }
+        requires { IsBatch batch }
         ensures shown { OnOk result (shown self.new ≡ with_batch (points_of batch.points) (shown self.old)) }
+        ensures fragments { OnOk result (fragments_in self.new ≡ fragments_after (fragments_in self.old) (range_ops_of batch.ranges)) }
         ensures parts { OnOk result (parts_of self.new ≡ after_batch (stage_of self.old) (stage_of self.new) (parts_of self.old)) }
         ensures err { OnErr result (self.new ≡ self.old) }
     {
-        let Batch { points, ranges } = batch;
+        if batch.ranges.is_empty() {
+            self.apply_points(batch.points)
+        } else {
+            self.apply_both(batch)
+        }
+    }
+
+    /// The same for a batch of point operations alone.
+    fn apply_points(&mut self, points: Elements<PointOp>) -> Result<(), OutOfMemory>
+        requires { AreEntries points }
+        ensures shown { OnOk result (shown self.new ≡ with_batch (points_of points) (shown self.old)) }
+        ensures fragments { fragments_in self.new ≡ fragments_in self.old }
+        ensures parts { OnOk result (parts_of self.new ≡ after_batch (stage_of self.old) (stage_of self.new) (parts_of self.old)) }
+        ensures err { OnErr result (self.new ≡ self.old) }
+    {
         let mut ops = points.into_vec();
         if ops.len() == 1 {
             return self.apply_one(ops.swap_remove(0));
         }
-        retain_changes(&mut ops, &self.table, &self.runs);
-        self.table.apply(Batch {
+        self.apply_both(Batch {
             points: Elements::from_vec(ops),
-            ranges,
+            ranges: Elements::new(self.alloc),
         })
     }
 
@@ -78,6 +108,7 @@ impl Store {
         requires { IsStorable op }
         ensures idle { changes_points (shown self.old) (point_of op) ≡ false → IsOk result }
         ensures shown { OnOk result (shown self.new ≡ with_batch (points_of (op ∷ [])) (shown self.old)) }
+        ensures fragments { fragments_in self.new ≡ fragments_in self.old }
         ensures parts { OnOk result (parts_of self.new ≡ after_batch (stage_of self.old) (stage_of self.new) (parts_of self.old)) }
         ensures err { OnErr result (self.new ≡ self.old) }
     {
@@ -89,28 +120,69 @@ impl Store {
         }
     }
 
+    /// The same for a batch of any operations. What it makes of the fragments is staged before the first change, and put in place
+    /// after the last; where it has no range operation there is nothing to stage.
+    fn apply_both(&mut self, batch: Batch) -> Result<(), OutOfMemory>
+        requires { IsBatch batch }
+        ensures shown { OnOk result (shown self.new ≡ with_batch (points_of batch.points) (shown self.old)) }
+        ensures fragments { OnOk result (fragments_in self.new ≡ fragments_after (fragments_in self.old) (range_ops_of batch.ranges)) }
+        ensures parts { OnOk result (parts_of self.new ≡ after_batch (stage_of self.old) (stage_of self.new) (parts_of self.old)) }
+        ensures err { OnErr result (self.new ≡ self.old) }
+    {
+        stage_ops(&mut self.fragments, batch.ranges.as_slice())?;
+        let ranges = changing_ops(&self.fragments, batch.ranges, self.alloc);
+        let mut ops = batch.points.into_vec();
+        retain_changes(&mut ops, &self.table, &self.runs);
+        let points = Elements::from_vec(ops);
+        match self.table.apply(Batch { points, ranges }) {
+            Ok(()) => {
+                self.fragments.commit();
+                Ok(())
+            }
+            Err(OutOfMemory) => {
+                self.fragments.discard();
+                Err(OutOfMemory)
+            }
+        }
+    }
+
     /// Makes a memory table that is not empty the newest run, under an empty table. An empty one is left.
     pub fn flush(&mut self) -> Result<(), OutOfMemory>
         ensures shown { shown self.new ≡ shown self.old }
+        ensures fragments { fragments_in self.new ≡ fragments_in self.old }
         ensures parts { OnOk result (parts_of self.new ≡ flushed (parts_of self.old)) }
         ensures err { OnErr result (self.new ≡ self.old) }
     {
-        if self.table.len() == 0 {
-            return Ok(());
+        if let Some(run) = run_of(self.alloc, &self.table)? {
+            self.runs.insert(0, run)?;
+            self.table = MemTable::new(self.alloc);
         }
-        let points = self.table.len();
-        let bytes = entries_len(&mut self.table.cursor(), points);
-        let room = Room { points, bytes };
-        let run = collect(self.alloc, &mut self.table.cursor(), &[], room)?;
-        self.runs.insert(0, run)?;
-        self.table = MemTable::new(self.alloc);
         Ok(())
     }
 
-    /// Unites the oldest runs into one, so that at most `keep` are left. Cleared names go, and a run without a name goes whole.
+    /// Flushes, and then makes the run the newest one, both or, where memory is wanting, neither. The run has an entry.
+    pub fn add_run(&mut self, run: Run) -> Result<(), OutOfMemory>
+        requires { (run.points ≡ []) × (run.ranges ≡ []) → ⊥ }
+        ensures shown { OnOk result (shown self.new ≡ with_batch run.points (shown self.old)) }
+        ensures fragments { OnOk result (fragments_in self.new ≡ fragments_after (fragments_in self.old) run.ranges) }
+        ensures parts { OnOk result (parts_of self.new ≡ with_run (part_of run (fragments_in self.new)) (parts_of self.old)) }
+        ensures err { OnErr result (self.new ≡ self.old) }
+    {
+        let flushed = run_of(self.alloc, &self.table)?;
+        self.runs.reserve(2)?;
+        stage_run(&mut self.fragments, &run)?;
+        close_table(&mut self.table, &mut self.runs, flushed, self.alloc);
+        self.runs.insert(0, run).unwrap();
+        self.fragments.commit();
+        Ok(())
+    }
+
+    /// Unites the oldest runs into one, so that at most `keep` are left. Cleared names go. In place of their range operations the
+    /// run has the closing fragments of the newest of them, as operations that set. A run without an entry goes whole.
     pub fn compact(&mut self, keep: u64) -> Result<(), OutOfMemory>
         requires { 1 ≤ keep }
         ensures shown { shown self.new ≡ shown self.old }
+        ensures fragments { fragments_in self.new ≡ fragments_in self.old }
         ensures parts { OnOk result (parts_of self.new ≡ compacted keep (parts_of self.old)) }
         ensures err { OnErr result (self.new ≡ self.old) }
     {
@@ -129,11 +201,18 @@ impl Store {
         Ok(())
     }
 
+    /// The fragments of all range operations. This takes no memory.
+    pub fn fragments(&self) -> FragmentsRef<'_>
+        ensures { result ≡ fragments_in self.now }
+    {
+        self.fragments.lend()
+    }
+
     /// A cursor over the visible pairs, before the first.
     pub fn cursor<'a>(&'a self) -> Result<StoreCursor<'a>, OutOfMemory>
         ensures points { IfOk result (λ c. ⟦<StoreCursor<'a> as Cursor>⟧.points c ≡ shown self.now) }
         ensures place { IfOk result (λ c. ⟦<StoreCursor<'a> as Cursor>⟧.place c ≡ 0) }
-        ensures lists { IfOk result (λ c. lists_behind ⟦<PartCursor<'a> as Cursor>⟧.points c ≡ self.now) }
+        ensures lists { IfOk result (λ c. lists_behind ⟦<PartCursor<'a> as Cursor>⟧.points c ≡ points_in self.now) }
         ensures parts { IfOk result (λ c. StandsOnParts ⟦<PartCursor<'a> as Cursor>⟧.is_part c) }
     {
         Ok(VisibleCursor::over(MergeCursor::over(self.cursors()?)))
@@ -141,7 +220,7 @@ impl Store {
 
     /// The cursors of the parts.
     fn cursors<'a>(&'a self) -> Result<Vec<PartCursor<'a>>, OutOfMemory>
-        ensures points { IfOk result (λ v. map ⟦<PartCursor<'a> as Cursor>⟧.points v.items ≡ self.now) }
+        ensures points { IfOk result (λ v. map ⟦<PartCursor<'a> as Cursor>⟧.points v.items ≡ points_in self.now) }
         ensures places { IfOk result (λ v. All (λ c. ⟦<PartCursor<'a> as Cursor>⟧.place c ≡ 0) v.items) }
     {
         let mut cursors = Vec::with_capacity(self.alloc, 1 + self.runs.len())?;
@@ -152,15 +231,32 @@ impl Store {
         Ok(cursors)
     }
 
-    /// How many names each part holds and clears: the memory table first, then the runs from the newest to the oldest.
+    /// How many names each part holds and clears, and whether it has range operations: the memory table first, then the runs from
+    /// the newest to the oldest.
     pub fn layout(&self) -> Result<Vec<PartShape>, OutOfMemory>
         ensures { IfOk result (λ shapes. map seen_shape shapes.items ≡ layout (parts_of self.now)) }
     {
         let mut shapes = Vec::with_capacity(self.alloc, 1 + self.runs.len())?;
-        shapes.push(shape_of(&mut self.table.cursor(), self.table.len()))?;
+        let ranges = !self.table.range_ops().is_empty();
+        shapes.push(shape_of(&mut self.table.cursor(), self.table.len(), ranges))?;
         for run in &self.runs {
-            shapes.push(shape_of(&mut run.cursor(), run.len()))?;
+            shapes.push(shape_of(&mut run.cursor(), run.len(), run.range_len() > 0))?;
         }
         Ok(shapes)
+    }
+}
+
+/// The operations where what is staged differs from the fragments, and else none.
+fn changing_ops(
+    fragments: &StagedFragments,
+    ops: Elements<RangeOp>,
+    alloc: Global,
+) -> Elements<RangeOp>
+    ensures { result ≡ (if not (are_same_fragments fragments.now.fragments fragments.now.next) then ops else []) }
+{
+    if fragments.is_changed() {
+        ops
+    } else {
+        Elements::new(alloc)
     }
 }

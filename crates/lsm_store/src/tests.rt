@@ -1,9 +1,10 @@
 ghost use Rattle.std.specs.Prelude.{◌≡◌, ◌<◌, IfOk};
-ghost use Rattle.mvcc_key.specs.Batches.{IsBatch, HasPointsAlone};
+ghost use Rattle.mvcc_key.specs.Batches.{IsBatch};
 
 use super::*;
 use mvcc_key::{
-    Batch, BatchBuilder, Bytes, Cursor, Looks, OutOfMemory, PointOp, Timestamp, encode_key,
+    Batch, BatchBuilder, Bytes, Cursor, Key, Looks, OutOfMemory, PointOp, RangeOp, Timestamp,
+    encode_key,
 };
 use std::alloc::Global;
 use std::marker::Brand;
@@ -11,7 +12,7 @@ use std::sync::ledger::{Blank, Ledger};
 use std::test::Fail;
 
 /// A key, a wall time (0 for the key's record), and a value where it is set.
-type State = (&'static [u8], u64, Option<&'static [u8]>);
+pub(crate) type State = (&'static [u8], u64, Option<&'static [u8]>);
 
 /// How many names a part holds, and how many of them it clears.
 type Shape = (u64, u64);
@@ -43,21 +44,44 @@ fn op_of(alloc: Global, state: State) -> Result<PointOp, OutOfMemory> {
     Ok(PointOp { key, value })
 }
 
-/// The states, but for those that are out of order or cannot be stored.
-fn batch_of(alloc: Global, states: &[State]) -> Result<Batch, OutOfMemory>
-    ensures batch { IfOk result IsBatch }
-    ensures points { IfOk result HasPointsAlone }
+/// A start, an end, a wall time, and whether a tombstone is set over them, or removed.
+pub(crate) type Range = (&'static [u8], &'static [u8], u64, bool);
+
+fn range_of(alloc: Global, range: Range) -> Result<RangeOp, OutOfMemory> {
+    let (start, end, wall, is_set) = range;
+    Ok(RangeOp {
+        start: Key::copy(alloc, start)?,
+        end: Key::copy(alloc, end)?,
+        ts: Timestamp::new(wall, 0).unwrap_or(Timestamp::NONE),
+        set: if is_set {
+            Some(Bytes::new(alloc))
+        } else {
+            None
+        },
+    })
+}
+
+/// The states and the range operations, but for those that are out of order or cannot be stored.
+pub(crate) fn batch_of(
+    alloc: Global,
+    states: &[State],
+    ranges: &[Range],
+) -> Result<Batch, OutOfMemory>
+    ensures { IfOk result IsBatch }
 {
     let mut batch = BatchBuilder::new(alloc);
     for state in states {
         let _ = batch.push_point(op_of(alloc, *state)?)?;
+    }
+    for range in ranges {
+        let _ = batch.push_range(range_of(alloc, *range)?)?;
     }
     Ok(batch.into_batch())
 }
 
 fn make(alloc: Global, store: &mut Store, step: Step) -> Result<(), OutOfMemory> {
     match step {
-        Step::Apply(states) => store.apply(batch_of(alloc, states)?),
+        Step::Apply(states) => store.apply(batch_of(alloc, states, &[])?),
         Step::Flush => store.flush(),
         Step::Compact(keep) => store.compact(keep.max(1)),
     }
@@ -83,7 +107,7 @@ fn is_at<C: Cursor>(alloc: Global, cursor: &C, state: Option<State>) -> Result<b
 }
 
 /// Whether a cursor comes to these states on its way to the end, and back.
-fn shows<L: Ledger>(
+pub(crate) fn shows<L: Ledger>(
     alloc: Global,
     store: &Store,
     states: &[State],

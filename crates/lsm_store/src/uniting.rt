@@ -1,22 +1,27 @@
 //! Several runs as one.
-ghost use Rattle.std.specs.Prelude.{◌≡◌, [], map, All, IfOk};
+ghost use Rattle.std.specs.Prelude.{◌≡◌, map, All, IfOk};
 ghost use Rattle.mvcc_key.specs.Batches.{IsStoredPoint};
+ghost use Rattle.range_key.specs.RangeOps.{operations_of};
 ghost use Rattle.merge_cursor.specs.Merged.{merged};
 ghost use Rattle.merge_cursor.specs.Visible.{visible};
+ghost use Rattle.lsm_store.specs.Shown.{fragments_in};
 
 use crate::PartCursor;
+use crate::ranges::closing_ops;
 use merge_cursor::{MergeCursor, VisibleCursor};
 use mvcc_key::{Cursor, OutOfMemory};
 use run_block::{Room, Run, collect};
 use std::alloc::Global;
 
 /// The run of what these runs show together, from the newest to the oldest: of each name the newest run's pair, and none where
-/// that run clears the name. It is made in one pass.
+/// that run clears the name, and the closing fragments of the newest run as operations that set. The points are
+/// made in one pass.
 pub(crate) fn unite(alloc: Global, runs: &[Run]) -> Result<Run, OutOfMemory>
-    ensures { IfOk result (λ run. run ≡ record { points = visible (merged (map (λ r. r.points) runs.now)); ranges = [] }) }
+    ensures { IfOk result (λ run. run ≡ record { points = visible (merged (map (λ r. r.points) runs.now)); ranges = operations_of (fragments_in runs.now) }) }
 {
+    let ops = closing_ops(alloc, runs)?;
     let mut cursor = VisibleCursor::over(MergeCursor::over(cursors_over(alloc, runs)?));
-    collect(alloc, &mut cursor, &[], room_of(runs))
+    collect(alloc, &mut cursor, ops.as_slice(), room_of(runs))
 }
 
 /// The cursors of the runs, before their first points.

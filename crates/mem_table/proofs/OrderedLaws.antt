@@ -55,12 +55,12 @@ module _ {X : Type 0} {cmp : X → X → Ordering} (total : IsTotalOrder cmp) wh
   greater_back x y h = total.antisymm y x ∙ ap ordering_reverse h
 
   -- what is below the first is below all
-  below_all : (x y : X) (ys : List X) → cmp x y ≡ Less → AllByRecursion (λ z. cmp y z ≡ Less) ys → AllByRecursion (λ z. cmp x z ≡ Less) ys
+  pub below_all : (x y : X) (ys : List X) → cmp x y ≡ Less → AllByRecursion (λ z. cmp y z ≡ Less) ys → AllByRecursion (λ z. cmp x z ≡ Less) ys
   below_all x y [] h a = tt
   below_all x y (z ∷ zs) h a = (total.trans x y z h a.0, below_all x y zs h a.1)
 
   -- what ties with the first is below what the first is below
-  tied_all : (x y : X) (ys : List X) → cmp x y ≡ Equal → AllByRecursion (λ z. cmp y z ≡ Less) ys → AllByRecursion (λ z. cmp x z ≡ Less) ys
+  pub tied_all : (x y : X) (ys : List X) → cmp x y ≡ Equal → AllByRecursion (λ z. cmp y z ≡ Less) ys → AllByRecursion (λ z. cmp x z ≡ Less) ys
   tied_all x y [] h a = tt
   tied_all x y (z ∷ zs) h a = (total.congr x y z h ∙ a.0, tied_all x y zs h a.1)
 

@@ -1,11 +1,16 @@
 //! Places of names among operations in order.
-ghost use Rattle.std.specs.Prelude.{◌≡◌, ◌<◌, length, slice_get, Some};
+ghost use Rattle.std.specs.Prelude.{◌≡◌, ◌<◌, length, slice_get, true, Some};
+ghost use Rattle.mvcc_key.specs.Order.{is_same_name};
 ghost use Rattle.mvcc_key.specs.Encoded.{name_in, IsName};
-ghost use Rattle.mvcc_key.specs.Batches.{AreEntries};
-ghost use Rattle.mem_table.specs.views.Places.{listed, AreNumbersOf, IsRangeOf};
+ghost use Rattle.mvcc_key.specs.Points.{Point};
+ghost use Rattle.mem_table.specs.views.Entries.{numbered};
+ghost use Rattle.mem_table.specs.views.Slots.{numbers_in, IsIndexed};
+ghost use Rattle.mem_table.specs.views.Gaps.{place_of, IsGap};
+ghost use Rattle.mem_table.specs.views.Held.{held};
 
-use mvcc_key::{PointOp, cmp_encoded};
-use std::cmp::Ordering;
+use crate::entries::Entries;
+use crate::leaves::Leaves;
+use mvcc_key::cmp_encoded;
 
 /// Where a name stands in a memory table, or would stand: what [`find`](crate::MemTable::find) answers. It holds until the table
 /// takes a new name up.
@@ -14,33 +19,28 @@ pub struct MemPlace {
     pub(crate) low: usize,
     /// One more than `low` where the name is known, and else `low`.
     pub(crate) behind: usize,
+    /// The leaf and the slot where the table found the name. In another table, or later, the place is sought by `low`.
+    pub(crate) leaf: usize,
+    pub(crate) slot: usize,
 }
 
-/// The operation at a place of the order.
-pub(crate) fn op_at<'a>(ops: &'a [PointOp], order: &[u32], place: usize) -> &'a PointOp
-    requires numbers { AreNumbersOf ops.now order.now }
-    requires within { place < length order.now }
-    ensures { slice_get (listed ops.now order.now) place ≡ Some result.now }
+/// Whether the name with this encoded key stands at a gap.
+pub(crate) fn is_at<E: Entries>(
+    entries: &E,
+    leaves: &Leaves,
+    leaf: usize,
+    slot: usize,
+    sought: &[u8],
+) -> bool
+    requires index { IsIndexed (E.points entries.now) (held leaves.now) }
+    requires gap { IsGap (held leaves.now) leaf slot }
+    requires sought { IsName sought.now }
+    ensures found { (p : Point) → slice_get (numbered (E.points entries.now) (numbers_in (held leaves.now))) (place_of (held leaves.now) leaf slot) ≡ Some p
+        → result ≡ is_same_name p.name (name_in sought.now) }
+    ensures within { result ≡ true → place_of (held leaves.now) leaf slot < length (numbers_in (held leaves.now)) }
 {
-    &ops[order[place] as usize]
-}
-
-/// The range of the operations with this encoded key, found by halving: one, or none at the place where it would stand.
-pub(crate) fn range_of(ops: &[PointOp], order: &[u32], key: &[u8]) -> (usize, usize)
-    requires numbers { AreNumbersOf ops.now order.now }
-    requires entries { AreEntries (listed ops.now order.now) }
-    requires key { IsName key.now }
-    ensures { IsRangeOf (name_in key.now) (listed ops.now order.now) result.0 result.1 }
-{
-    let mut low = 0;
-    let mut high = order.len();
-    while low < high {
-        let middle = low + (high - low) / 2;
-        match cmp_encoded(op_at(ops, order, middle).key.as_slice(), key) {
-            Ordering::Less => low = middle + 1,
-            Ordering::Equal => return (middle, middle + 1),
-            Ordering::Greater => high = middle,
-        }
+    match leaves.slot_at(leaf, slot) {
+        Some(at) => cmp_encoded(entries.key(leaves.number(at.0, at.1)), sought).is_eq(),
+        None => false,
     }
-    (low, low)
 }

@@ -9,13 +9,10 @@ ghost use Rattle.mvcc_key.specs.Batches.{IsBatch, IsStorable, IsStorableRange, I
 ghost use Rattle.mem_table.specs.views.Places.{IsPlaceOf, IsPlace};
 ghost use Rattle.mem_table.specs.Table.{empty_table, batch_of_one, after_batch, state_of, ShowsNewest};
 
-use crate::{MemPlace, SortedOps};
-use mvcc_key::{Batch, Cursor, OutOfMemory, PairsCursor, PointOp, RangeOp, SortedPairs};
+use crate::{MemCursor, MemPlace, SortedOps};
+use mvcc_key::{Batch, Cursor, OutOfMemory, PointOp, RangeOp};
 use std::alloc::Global;
 use std::marker::Model;
-
-/// A cursor over the points of a memory table, in both directions. It is a part's cursor: a cleared name has no value.
-pub type MemCursor<'a> = PairsCursor<'a, SortedOps>;
 
 /// What was written since the last run: of each name its newest state, set or cleared, in the order of stored pairs, and the range
 /// operations in the order in which they came.
@@ -121,7 +118,7 @@ impl MemTable {
         ensures part { IsTrue (⟦<MemCursor<'a> as Cursor>⟧.is_part result) }
         ensures stored { All IsStoredPoint self.now.points }
     {
-        PairsCursor::over(&self.points)
+        MemCursor::over(&self.points)
     }
 
     /// The range operations in the order in which they came.

@@ -136,7 +136,7 @@ const ROW: [State; 3] = [
 /// Batches, oldest first, and the states of their table.
 type Case = (&'static [&'static [State]], &'static [State]);
 
-const CASES: [Case; 10] = [
+const CASES: [Case; 13] = [
     (&[], &[]),
     (&[&ROW, &[]], &ROW),
     (
@@ -216,6 +216,51 @@ const CASES: [Case; 10] = [
             (b"e", 1, Some(b"7")),
             (b"f", 1, Some(b"4")),
             (b"g", 1, None),
+        ],
+    ),
+    (
+        &[
+            &[(b"12345678b", 1, Some(b"4"))],
+            &[(b"12345678", 1, Some(b"2")), (b"12345678a", 1, Some(b"3"))],
+            &[(b"1234567", 1, Some(b"1"))],
+        ],
+        &[
+            (b"1234567", 1, Some(b"1")),
+            (b"12345678", 1, Some(b"2")),
+            (b"12345678a", 1, Some(b"3")),
+            (b"12345678b", 1, Some(b"4")),
+        ],
+    ),
+    (
+        &[
+            &[(b"\0\0\0\0\0\0\0\0", 1, Some(b"8"))],
+            &[(b"\0", 1, Some(b"1")), (b"\0\0\0\0\0\0\0\0\0", 1, None)],
+            &[(b"\0\0", 1, Some(b"2")), (b"\0\0\0\0\0\0\0", 1, Some(b"7"))],
+            &[(b"\0\0\0\0", 1, Some(b"4"))],
+        ],
+        &[
+            (b"\0", 1, Some(b"1")),
+            (b"\0\0", 1, Some(b"2")),
+            (b"\0\0\0\0", 1, Some(b"4")),
+            (b"\0\0\0\0\0\0\0", 1, Some(b"7")),
+            (b"\0\0\0\0\0\0\0\0", 1, Some(b"8")),
+            (b"\0\0\0\0\0\0\0\0\0", 1, None),
+        ],
+    ),
+    (
+        &[
+            &[(b"k", 3, Some(b"3"))],
+            &[(b"k", 5, Some(b"5")), (b"k", 1, Some(b"1"))],
+            &[(b"k", 0, Some(b"0")), (b"k", 4, None)],
+            &[(b"k", 2, Some(b"2"))],
+        ],
+        &[
+            (b"k", 0, Some(b"0")),
+            (b"k", 5, Some(b"5")),
+            (b"k", 4, None),
+            (b"k", 3, Some(b"3")),
+            (b"k", 2, Some(b"2")),
+            (b"k", 1, Some(b"1")),
         ],
     ),
 ];
@@ -396,5 +441,166 @@ fn a_refused_batch_leaves_the_table(rt: HostRuntime) -> Result<(), Fail> {
     }
     assert!(rt; has_ranges(&table, &RANGES));
     assert!(rt; walks::<Brand>(rt.alloc(), &table, &STATES, Blank::new(1))?);
+    Ok(())
+}
+
+/// In which order names come.
+#[derive(Clone, Copy, Debug)]
+enum Order {
+    Rising,
+    Falling,
+    Jumping,
+}
+
+/// The number that comes at this turn; jumps need a count that 7,919 does not divide.
+fn turn(order: Order, i: u32, count: u32) -> u32
+    requires { i < count }
+{
+    match order {
+        Order::Rising => i,
+        Order::Falling => count - 1 - i,
+        Order::Jumping => (u64::from(i) * 7_919 % u64::from(count)) as u32,
+    }
+}
+
+/// The encoded key of the number, behind a prefix.
+fn key_of_number(alloc: Global, prefix: &[u8], n: u32) -> Result<Vec<u8>, OutOfMemory> {
+    let mut bytes = Vec::new(alloc);
+    bytes.extend_from_slice(prefix)?;
+    bytes.extend_from_slice(&n.to_be_bytes())?;
+    key_of(alloc, bytes.as_slice(), 1)
+}
+
+fn op_of_number(alloc: Global, prefix: &[u8], n: u32) -> Result<PointOp, OutOfMemory> {
+    let key = Bytes::from_vec(key_of_number(alloc, prefix, n)?);
+    Ok(PointOp { key, value: None })
+}
+
+/// The table of so many numbers, which come in this order.
+fn filled(alloc: Global, prefix: &[u8], order: Order, count: u32) -> Result<MemTable, OutOfMemory> {
+    let mut table = MemTable::new(alloc);
+    for i in 0..count {
+        put(
+            &mut table,
+            op_of_number(alloc, prefix, turn(order, i, count))?,
+        )?;
+    }
+    Ok(table)
+}
+
+/// Whether the cursor stands at this number, or at none.
+fn stands_at<C: Cursor>(
+    alloc: Global,
+    cursor: &C,
+    prefix: &[u8],
+    n: Option<u32>,
+) -> Result<bool, OutOfMemory> {
+    match n {
+        Some(n) => {
+            let key = key_of_number(alloc, prefix, n)?;
+            Ok(cursor.key() == Some(key.as_slice()))
+        }
+        None => Ok(cursor.key().is_none()),
+    }
+}
+
+/// Whether a cursor comes to all numbers on its way to the end, and back.
+fn passes<L: Ledger>(
+    alloc: Global,
+    table: &MemTable,
+    prefix: &[u8],
+    count: u32,
+    blank: Blank,
+) -> Result<bool, OutOfMemory>
+    requires name { blank.name ≡ L.name }
+    requires parts { blank.parts ≡ L.parts }
+    requires some { 0 < blank.parts }
+{
+    let mut looks = Looks::<L>::new(blank);
+    let mut cursor = table.cursor();
+    let mut passed = true;
+    for n in 0..count {
+        cursor.next(&mut looks);
+        passed = stands_at(alloc, &cursor, prefix, Some(n))? && passed;
+    }
+    cursor.next(&mut looks);
+    passed = stands_at(alloc, &cursor, prefix, None)? && passed;
+    for n in (0..count).rev() {
+        cursor.prev(&mut looks);
+        passed = stands_at(alloc, &cursor, prefix, Some(n))? && passed;
+    }
+    cursor.prev(&mut looks);
+    Ok(stands_at(alloc, &cursor, prefix, None)? && passed)
+}
+
+/// Whether a cursor comes to each number that it seeks, to the one behind it and to the one before it.
+fn seeks<L: Ledger>(
+    alloc: Global,
+    table: &MemTable,
+    prefix: &[u8],
+    count: u32,
+    blank: Blank,
+) -> Result<bool, OutOfMemory>
+    requires name { blank.name ≡ L.name }
+    requires parts { blank.parts ≡ L.parts }
+    requires some { 0 < blank.parts }
+{
+    let mut looks = Looks::<L>::new(blank);
+    let mut cursor = table.cursor();
+    let mut found = true;
+    for n in 0..count {
+        let key = key_of_number(alloc, prefix, n)?;
+        if decode_key(key.as_slice()).is_err() {
+            return Ok(false);
+        }
+        cursor.seek_ge(key.as_slice(), &mut looks);
+        found = stands_at(alloc, &cursor, prefix, Some(n))? && found;
+        cursor.next(&mut looks);
+        let behind = if n + 1 < count { Some(n + 1) } else { None };
+        found = stands_at(alloc, &cursor, prefix, behind)? && found;
+        cursor.seek_lt(key.as_slice(), &mut looks);
+        found = stands_at(alloc, &cursor, prefix, n.checked_sub(1))? && found;
+    }
+    Ok(found)
+}
+
+/// Leaves split at their ends and in the middle; behind the prefix all abbreviated keys are the same.
+#[test]
+fn many_names_stand_in_order(rt: HostRuntime) -> Result<(), Fail> {
+    let alloc = rt.alloc();
+    let cases: [(&[u8], u32); 2] = [(b"", 100_000), (b"prefixed", 1_000)];
+    for (prefix, count) in cases {
+        for order in [Order::Rising, Order::Falling, Order::Jumping] {
+            let table = filled(alloc, prefix, order, count)?;
+            assert_eq!(rt; table.len(), count as usize);
+            assert!(rt; passes::<Brand>(alloc, &table, prefix, count, Blank::new(1))?);
+            assert!(rt; seeks::<Brand>(alloc, &table, prefix, count, Blank::new(1))?);
+        }
+    }
+    Ok(())
+}
+
+/// Whether a name that is refused leaves the table, and is taken up when it comes again.
+fn adds_or_leaves(alloc: Global, table: &mut MemTable, n: u32) -> Result<bool, OutOfMemory> {
+    let first = op_of_number(alloc, b"", n)?;
+    let again = op_of_number(alloc, b"", n)?;
+    let before = table.len();
+    if put(table, first).is_ok() {
+        return Ok(table.len() > before);
+    }
+    let left = table.len() == before;
+    put(table, again)?;
+    Ok(left)
+}
+
+/// Meant to be tried with each allocation failing in turn, too.
+#[test]
+fn a_refused_split_leaves_the_table(rt: HostRuntime) -> Result<(), Fail> {
+    let mut table = MemTable::new(rt.alloc());
+    for i in 0..130u32 {
+        let n = turn(Order::Jumping, i, 130);
+        assert!(rt; adds_or_leaves(rt.alloc(), &mut table, n)?);
+    }
+    assert!(rt; passes::<Brand>(rt.alloc(), &table, b"", 130, Blank::new(1))?);
     Ok(())
 }

@@ -8,8 +8,9 @@ use Rattle.std.specs.Ordering.{is_lt, is_le, is_eq}
 use Rattle.mvcc_key.specs.Order.{Name, name_cmp, is_same_name}
 use Rattle.mvcc_key.specs.Points.{Point}
 use Rattle.mvcc_key.proofs.OrderLaws.{name_cmp-total, name_cmp-IsAntisymmetric}
+use Rattle.mvcc_key.proofs.TimeLaws.{less_from}
 use Rattle.merge_cursor.specs.views.Standing.{cut_of, leads}
-use Rattle.merge_cursor.proofs.OrderLaws.{less_of, back-greater, back-less, is_same_name-one}
+use Rattle.merge_cursor.proofs.OrderLaws.{back-greater, back-less, is_same_name-one}
 use Rattle.merge_cursor.proofs.LeadingLaws.{refused}
 use Rattle.merge_cursor.proofs.CutLaws.{IsCut, IsFront, IsLast}
 
@@ -28,7 +29,7 @@ behind_below cut a b c h k = by (name_cmp a b) refl
 
 -- of three names, where neither of two neighbours falls the first does not stand above the last
 no_fall : (a b c : Name) → is_lt (name_cmp b a) ≡ false → is_lt (name_cmp c b) ≡ false → is_lt (name_cmp c a) ≡ false
-no_fall a b c h k = refused (is_lt (name_cmp c a)) (λ l. by (less_of (name_cmp c a) l) (name_cmp b a) refl)
+no_fall a b c h k = refused (is_lt (name_cmp c a)) (λ l. by (less_from (name_cmp c a) l) (name_cmp b a) refl)
   where
     by : name_cmp c a ≡ Less → (o : Ordering) → name_cmp b a ≡ o → ⊥
     by l Less is = (let yes : is_lt (name_cmp b a) ≡ true = ap is_lt is in cc)

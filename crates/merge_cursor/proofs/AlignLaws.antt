@@ -10,11 +10,12 @@ use Rattle.std.proofs.lemmas.List.Elements.{All-from_recursion}
 use Rattle.std.proofs.lemmas.List.Sums.{sum_by-cons}
 use Rattle.mvcc_key.specs.Order.{Name, is_same_name}
 use Rattle.mvcc_key.specs.Points.{Point, IsRising, point_at}
+use Rattle.mvcc_key.proofs.EachLaws.{All-at, All-from_places}
 use Rattle.merge_cursor.specs.Merged.{merged}
 use Rattle.merge_cursor.specs.views.Standing.{Standing, lists_of, head, heads, head_of, cut_of, count_in, place_in, positioned, leads, IsLeading, has_name, IsAligned, merged_place}
 use Rattle.merge_cursor.proofs.CutLaws.{IsCut, IsFront, IsLast, front-at, last-at, count_in-agree}
 use Rattle.merge_cursor.proofs.AgreeLaws.{InFront, IsBehind, agree-front, agree-last, lacks-front, lacks-last}
-use Rattle.merge_cursor.proofs.MergedLaws.{each-of_index, each-at, each-merged}
+use Rattle.merge_cursor.proofs.MergedLaws.{each-merged}
 
 -- ---- on either way
 
@@ -139,7 +140,7 @@ aligns ahead cut parts current c rising is leading = record {
     within = (let long = length-map parts head in let w = leading.within in omega arith);
     some = λ lt. leading.some (let long = length-map parts head in omega arith);
     each = is ∙ positioned-agree ahead cut (cut_of ahead best) parts agreed;
-    newest = λ p at. All-from_recursion (λ s. has_name p.name s.points ≡ false) (take current parts) (each-of_index (λ s. has_name p.name s.points ≡ false) (take current parts) (newer p at));
+    newest = λ p at. All-from_recursion (λ s. has_name p.name s.points ≡ false) (take current parts) (All-from_places (λ s. has_name p.name s.points ≡ false) (take current parts) (newer p at));
   };
   place = sym (merged-agree ahead cut (cut_of ahead best) parts agreed);
   counts = counts-agree cut (cut_of ahead best) parts agreed;
@@ -150,7 +151,7 @@ aligns ahead cut parts current c rising is leading = record {
 
     edge : (i : ℕ) (s : Standing) → slice_get parts i ≡ Some s → IsEdge ahead cut (head s) s.points
     edge i s at =
-        edge-at ahead cut s.points (head s) c (each-at (λ t. IsRising t.points) parts i s rising at)
+        edge-at ahead cut s.points (head s) c (All-at (λ t. IsRising t.points) parts i s rising at)
         (ap (point_at s.points) (sym (placed-at ahead cut parts i s is at)))
 
     on_side : (o : Option Point) → head_of (heads parts) current ≡ o → IsBest ahead cut o
@@ -164,8 +165,8 @@ aligns ahead cut parts current c rising is leading = record {
 
     agreed : AgreeOn cut (cut_of ahead (head_of (heads parts) current)) parts
     agreed =
-        each-of_index (λ s. AllByRecursion (λ r. cut r.name ≡ cut_of ahead (head_of (heads parts) current) r.name) s.points) parts
-        (λ i s at. each-of_index (λ r. cut r.name ≡ cut_of ahead (head_of (heads parts) current) r.name) s.points
+        All-from_places (λ s. AllByRecursion (λ r. cut r.name ≡ cut_of ahead (head_of (heads parts) current) r.name) s.points) parts
+        (λ i s at. All-from_places (λ r. cut r.name ≡ cut_of ahead (head_of (heads parts) current) r.name) s.points
         (agree ahead cut (head_of (heads parts) current) (head s) s.points c (on_side (head_of (heads parts) current) refl) (edge i s at) (not_before i s at)))
 
     newer : (p : Point) → head_of (heads parts) current ≡ Some p → (i : ℕ) (s : Standing) → slice_get (take current parts) i ≡ Some s → has_name p.name s.points ≡ false

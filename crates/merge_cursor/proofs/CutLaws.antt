@@ -14,9 +14,10 @@ use Rattle.mvcc_key.specs.Order.{Name, name_cmp}
 use Rattle.mvcc_key.specs.Points.{Point, IsRising, point_at, count_below}
 use Rattle.mvcc_key.proofs.OrderLaws.{name_cmp-total}
 use Rattle.mvcc_key.proofs.PointLaws.{rising_rest, rising-first, point_at-next, point_at-none}
-use Rattle.merge_cursor.specs.views.Standing.{cut_of, count_in}
+use Rattle.mvcc_key.proofs.TimeLaws.{less_from}
+use Rattle.merge_cursor.specs.views.Standing.{count_in}
 use Rattle.merge_cursor.specs.views.Moves.{cut_past, cut_before}
-use Rattle.merge_cursor.proofs.OrderLaws.{less_of, back-greater}
+use Rattle.merge_cursor.proofs.OrderLaws.{back-greater}
 use Rattle.merge_cursor.proofs.LeadingLaws.{refused}
 
 -- ---- cuts
@@ -27,7 +28,7 @@ pub record IsCut (cut : Name → Bool) : Type 0 where
 
 -- the names below one
 pub below-IsCut : (n : Name) → IsCut (λ m. is_lt (name_cmp m n))
-below-IsCut n = record { down = λ a b h k. ap is_lt (name_cmp-total.trans a b n h (less_of (name_cmp b n) k)) }
+below-IsCut n = record { down = λ a b h k. ap is_lt (name_cmp-total.trans a b n h (less_from (name_cmp b n) k)) }
 
 -- the names up to one
 pub up_to-IsCut : (n : Name) → IsCut (λ m. is_le (name_cmp m n))
@@ -45,12 +46,7 @@ up_to-IsCut n = record { down = down }
 pub constant-IsCut : (b : Bool) → IsCut (λ _. b)
 constant-IsCut b = record { down = λ _ _ _ h. h }
 
-pub cut_of-IsCut : (ahead : Bool) (o : Option Point) → IsCut (cut_of ahead o)
-cut_of-IsCut true None = constant-IsCut true
-cut_of-IsCut false None = constant-IsCut false
-cut_of-IsCut true (Some p) = below-IsCut p.name
-cut_of-IsCut false (Some p) = up_to-IsCut p.name
-
+-- the names that are left behind on the way on, and on the way back
 pub cut_past-IsCut : (ahead : Bool) (o : Option Point) → IsCut (cut_past ahead o)
 cut_past-IsCut ahead None = constant-IsCut ahead
 cut_past-IsCut ahead (Some p) = up_to-IsCut p.name

@@ -47,16 +47,6 @@ pub record IsLeadingAmong (ahead : Bool) (points : List (Option Point)) (i n : �
   pub least : (j : ℕ) → j < n → leads ahead (head_of points j) (head_of points i) ≡ false
   pub first : (j : ℕ) (p q : Point) → j < i → j < n → head_of points j ≡ Some p → head_of points i ≡ Some q → is_same_name p.name q.name ≡ false
 
--- before any was looked at
-pub leading-none : (ahead : Bool) (points : List (Option Point)) (n : ℕ) → n ≡ length points → IsLeadingAmong ahead points n 0
-leading-none ahead points n is = record {
-  within = omega arith;
-  reached = inr is;
-  some = λ h. absurd (omega arith);
-  least = λ j h. absurd (omega arith);
-  first = λ j p q lt h. absurd (omega arith);
-}
-
 -- one that comes before the first so far
 pub leading-better : (ahead : Bool) (points : List (Option Point)) (i n : ℕ) → n < length points → IsLeadingAmong ahead points i n
     → leads ahead (head_of points n) (head_of points i) ≡ true → IsLeadingAmong ahead points n (n + 1)

@@ -5,7 +5,7 @@ use Rattle.std.specs.List.{AllByRecursion}
 use Rattle.std.specs.declared.option.Option.{Option}
 use Rattle.std.specs.Borrow.{Bor}
 use Rattle.std.proofs.lemmas.List.{length-map, take_at}
-use Rattle.std.proofs.lemmas.List.Elements.{All-head, All-tail, All-from_recursion}
+use Rattle.std.proofs.lemmas.List.Elements.{recursion_from_All, All-head, All-tail, All-from_recursion}
 use Rattle.std.proofs.lemmas.List.Sums.{sum_by-cons}
 use Rattle.mvcc_key.specs.Order.{Name}
 use Rattle.mvcc_key.specs.views.Looks.{bits}
@@ -15,7 +15,6 @@ use Rattle.merge_cursor.specs.views.Standing.{Standing, standing, standings, lis
 use Rattle.merge_cursor.specs.declared.moves.Move.TheVariants.{SeekGe}
 use Rattle.merge_cursor.specs.views.Moves.{looks_of, cut_past}
 use Rattle.merge_cursor.proofs.CutLaws.{IsCut, count_in-below, count_in-all, count_in-none}
-use Rattle.merge_cursor.proofs.PassLaws.{each-of_all}
 use Rattle.merge_cursor.proofs.HeadLaws.{head_of-part}
 use Rattle.merge_cursor.proofs.MergedLaws.{encodable-merged}
 use Rattle.merge_cursor.proofs.ShownLaws.{rising-standings, below, shown}
@@ -105,7 +104,7 @@ module _ {X : Type 0} (points : X → List Point) (place : X → ℕ) (is_part :
       → All (λ x. IsTrue (is_part x)) old → All (λ x. IsTrue (is_part x)) new
   parts-after ahead cut old new is h =
       standings-parts new (subst (AllByRecursion (λ (s : Standing). IsTrue s.is_part)) (sym is)
-      (by (standings points place is_part old) (each-of_all (λ s. IsTrue s.is_part) (standings points place is_part old) (parts-standings old h))))
+      (by (standings points place is_part old) (recursion_from_All (λ s. IsTrue s.is_part) (standings points place is_part old) (parts-standings old h))))
     where
       by : (ss : List Standing) → AllByRecursion (λ s. IsTrue s.is_part) ss → AllByRecursion (λ s. IsTrue s.is_part) (positioned ahead cut ss)
       by [] k = tt

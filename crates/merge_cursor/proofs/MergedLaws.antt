@@ -4,70 +4,42 @@ use Rattle.std.specs.Prelude.{slice_get, find, Some}
 use Rattle.std.specs.List.{AllByRecursion}
 use Rattle.std.specs.Prelude.{◌||◌}
 use Rattle.std.specs.declared.option.Option.{Option}
-use Rattle.std.specs.declared.cmp.Ordering.{Ordering}
-use Rattle.std.specs.declared.cmp.Ordering.TheVariants.{Less, Equal, Greater}
-use Rattle.std.specs.Ordering.{match_ordering, is_eq, is_lt, is_le}
+use Rattle.std.specs.declared.cmp.Ordering.TheVariants.{Equal}
+use Rattle.std.specs.Ordering.{is_eq, is_lt, is_le}
 use Rattle.std.proofs.lemmas.Bool.{cases_order}
-use Rattle.std.proofs.lemmas.Cmp.{tied_back, tied_itself}
+use Rattle.std.proofs.lemmas.Cmp.{tied_itself}
 use Rattle.std.proofs.lemmas.Option.{slice_get_within, slice_get_cases}
-use Rattle.mvcc_key.specs.Lists.{put_in_order, in_order}
+use Rattle.mvcc_key.specs.Lists.{in_order}
 use Rattle.mvcc_key.specs.Order.{Name, name_cmp, is_same_name, is_in_range}
 use Rattle.mvcc_key.specs.Points.{Point, point_cmp, IsRising, AreEncodable}
 use Rattle.mvcc_key.proofs.OrderLaws.{name_cmp-total}
-use Rattle.mvcc_key.proofs.PointLaws.{rising_rest, rising-first}
+use Rattle.mvcc_key.proofs.EachLaws.{All-append, All-at, All-from_places, All-in_order}
+use Rattle.mvcc_key.proofs.PointLaws.{named-in_order, rising_rest, rising-first}
 use Rattle.merge_cursor.specs.Merged.{joined, merged, merged-rising}
 use Rattle.merge_cursor.specs.views.Standing.{Standing, lists_of, has_name, count_in}
-use Rattle.merge_cursor.proofs.OrderLaws.{equal-of, is_same_name-itself, back-greater}
+use Rattle.merge_cursor.proofs.OrderLaws.{is_same_name-itself, back-greater}
 use Rattle.merge_cursor.proofs.CutLaws.{IsPlaced, placed, below-IsCut, up_to-IsCut}
 
 -- ---- what holds of each
 
--- what holds at each place holds of each
-pub each-of_index : {X : Type 0} (P : X → Type 0) (xs : List X) → ((i : ℕ) (x : X) → slice_get xs i ≡ Some x → P x) → AllByRecursion P xs
-each-of_index P [] h = tt
-each-of_index P (x ∷ xs) h = (h 0 x refl, each-of_index P xs (λ i y is. h (suc i) y is))
-
--- and the other way round
-pub each-at : {X : Type 0} (P : X → Type 0) (xs : List X) (i : ℕ) (x : X) → AllByRecursion P xs → slice_get xs i ≡ Some x → P x
-each-at P [] i x h is = absurd cc
-each-at P (y ∷ ys) zero x h is = (let same : y ≡ x = cc in rw (← same) h.0)
-each-at P (y ∷ ys) (suc i) x h is = each-at P ys i x h.1 is
-
-each_append : {X : Type 0} (P : X → Type 0) (xs ys : List X) → AllByRecursion P xs → AllByRecursion P ys → AllByRecursion P (xs ++ ys)
-each_append P [] ys h k = k
-each_append P (x ∷ xs) ys h k = (h.0, each_append P xs ys h.1 k)
-
 -- what holds of each point of each list holds of all of them
 pub each-joined : (P : Point → Type 0) (lists : List (List Point)) → AllByRecursion (AllByRecursion P) lists → AllByRecursion P (joined lists)
 each-joined P [] h = tt
-each-joined P (ps ∷ lists) h = each_append P ps (joined lists) h.0 (each-joined P lists h.1)
-
-each_put : (P : Point → Type 0) (x : Point) (ys : List Point) → P x → AllByRecursion P ys → AllByRecursion P (put_in_order point_cmp x ys)
-each_put P x [] h a = (h, tt)
-each_put P x (y ∷ ys) h a = by (point_cmp x y) (each_put P x ys h a.1)
-  where
-    by : (o : Ordering) → AllByRecursion P (put_in_order point_cmp x ys) → AllByRecursion P (match_ordering o (x ∷ y ∷ ys) (x ∷ ys) (y ∷ put_in_order point_cmp x ys))
-    by Less rest = (h, a)
-    by Equal rest = (h, a.1)
-    by Greater rest = (a.0, rest)
-
-each_ordered : (P : Point → Type 0) (ps : List Point) → AllByRecursion P ps → AllByRecursion P (in_order point_cmp ps)
-each_ordered P [] h = tt
-each_ordered P (p ∷ ps) h = each_put P p (in_order point_cmp ps) h.0 (each_ordered P ps h.1)
+each-joined P (ps ∷ lists) h = All-append P ps (joined lists) h.0 (each-joined P lists h.1)
 
 -- what holds of each point of each list holds of the merged ones
 pub each-merged : (P : Point → Type 0) (lists : List (List Point)) → AllByRecursion (AllByRecursion P) lists → AllByRecursion P (merged lists)
 unfolding merged
-each-merged P lists h = each_ordered P (joined lists) (each-joined P lists h)
+each-merged P lists h = All-in_order point_cmp P (joined lists) (each-joined P lists h)
 
 -- merged lists of names that have encodings have encodings
 pub encodable-merged : (lists : List (List Point)) → AllByRecursion AreEncodable lists → AreEncodable (merged lists)
 encodable-merged lists h i p is =
-    each-at (λ q. is_in_range q.name.ts ≡ true) (merged lists) i p (each-merged (λ q. is_in_range q.name.ts ≡ true) lists (all lists h)) is
+    All-at (λ q. is_in_range q.name.ts ≡ true) (merged lists) i p (each-merged (λ q. is_in_range q.name.ts ≡ true) lists (all lists h)) is
   where
     all : (ls : List (List Point)) → AllByRecursion AreEncodable ls → AllByRecursion (AllByRecursion (λ q. is_in_range q.name.ts ≡ true)) ls
     all [] k = tt
-    all (ps ∷ ls) k = (each-of_index (λ q. is_in_range q.name.ts ≡ true) ps k.0, all ls k.1)
+    all (ps ∷ ls) k = (All-from_places (λ q. is_in_range q.name.ts ≡ true) ps k.0, all ls k.1)
 
 -- where there is nothing nothing is merged
 pub merged-none : (lists : List (List Point)) → joined lists ≡ [] → merged lists ≡ []
@@ -80,43 +52,10 @@ merged-none lists none = ap (in_order point_cmp) none
 abbrev pub named_point : Name → List Point → Option Point
 named_point name points = find (λ p. is_same_name p.name name) points
 
-tied : (name : Name) (p q : Point) → is_same_name p.name name ≡ true → is_same_name q.name name ≡ true → name_cmp p.name q.name ≡ Equal
-tied name p q h k =
-    name_cmp-total.congr p.name name q.name (equal-of (name_cmp p.name name) h) ∙ tied_back name_cmp-total q.name name (equal-of (name_cmp q.name name) k)
-
-point_of-put : (name : Name) (p : Point) (qs : List Point) → named_point name (put_in_order point_cmp p qs) ≡ cond (is_same_name p.name name) (Some p) (named_point name qs)
-point_of-put name p [] = refl
-point_of-put name p (q ∷ qs) = by (point_cmp p q) refl (point_of-put name p qs)
-  where
-    both : (a b : Bool) (xs : Option Point) → ((a ≡ true) → (b ≡ true) → ⊥) → cond b (Some q) (cond a (Some p) xs) ≡ cond a (Some p) (cond b (Some q) xs)
-    both true true xs h = absurd (h refl refl)
-    both true false xs h = refl
-    both false true xs h = refl
-    both false false xs h = refl
-
-    one : (a b : Bool) (xs : Option Point) → a ≡ b → cond a (Some p) xs ≡ cond a (Some p) (cond b (Some q) xs)
-    one true b xs h = refl
-    one false true xs h = absurd cc
-    one false false xs h = refl
-
-    by : (o : Ordering) → point_cmp p q ≡ o → named_point name (put_in_order point_cmp p qs) ≡ cond (is_same_name p.name name) (Some p) (named_point name qs)
-        → named_point name (match_ordering o (p ∷ q ∷ qs) (p ∷ qs) (q ∷ put_in_order point_cmp p qs))
-        ≡ cond (is_same_name p.name name) (Some p) (cond (is_same_name q.name name) (Some q) (named_point name qs))
-    by Less h rest = refl
-    by Equal h rest = one (is_same_name p.name name) (is_same_name q.name name) (named_point name qs) (ap is_eq (name_cmp-total.congr p.name q.name name h))
-    by Greater h rest =
-        ap (λ (xs : Option Point). cond (is_same_name q.name name) (Some q) xs) rest
-        ∙ both (is_same_name p.name name) (is_same_name q.name name) (named_point name qs) (λ a b. (let equal : point_cmp p q ≡ Equal = tied name p q a b in cc))
-
-point_of-ordered : (name : Name) (ps : List Point) → named_point name (in_order point_cmp ps) ≡ named_point name ps
-point_of-ordered name [] = refl
-point_of-ordered name (p ∷ ps) =
-    point_of-put name p (in_order point_cmp ps) ∙ ap (λ (xs : Option Point). cond (is_same_name p.name name) (Some p) xs) (point_of-ordered name ps)
-
 -- among the merged points a name has its first point
 pub point_of-merged : (name : Name) (lists : List (List Point)) → named_point name (merged lists) ≡ named_point name (joined lists)
 unfolding merged
-point_of-merged name lists = point_of-ordered name (joined lists)
+point_of-merged name lists = named-in_order name (joined lists)
 
 -- a list without the name in front changes nothing
 point_of-lacking : (name : Name) (ps qs : List Point) → has_name name ps ≡ false → named_point name (ps ++ qs) ≡ named_point name qs

@@ -1,5 +1,5 @@
 -- One part more of a list of parts was moved.
-use Rattle.std.proofs.Common.{◌≡◌, ℕ, zero, suc, ◌+◌, ◌<◌, ◌≤◌, Bool, true, false, sum_by, count_by, List, [], ◌∷◌, ◌++◌, length, map, take, drop, set, get_or, refl, sym, ap, ◌∙◌, arith}
+use Rattle.std.proofs.Common.{◌≡◌, ℕ, zero, suc, ◌+◌, ◌<◌, ◌≤◌, Bool, true, false, sum_by, count_by, List, [], ◌∷◌, ◌++◌, length, map, take, drop, set, get_or, refl, ap, ◌∙◌, arith}
 use Rattle.std.specs.Prelude.{IsTrue}
 use Rattle.std.proofs.lemmas.List.Sums.{sum_by_more, count_by_more_no}
 
@@ -32,21 +32,6 @@ module _ {X : Type 0} where
         ∙ ap (λ (n : ℕ). changed_to f n xs) (let same : suc i ≡ i + 1 = omega arith in same),
     at ∙ ap (λ (ys : List X). get_or ys i old) is ∙ changed-at f xs i old,
   )
-
-  -- an element that the change leaves as it is
-  kept_suc : (f : X → X) (xs : List X) (i : ℕ) (d : X) → i < length xs → f (get_or xs i d) ≡ get_or xs i d → changed_to f i xs ≡ changed_to f (suc i) xs
-  kept_suc f [] i d lt same = absurd (omega arith)
-  kept_suc f (x ∷ xs) zero d lt same = ap (λ (y : X). y ∷ xs) (sym same)
-  kept_suc f (x ∷ xs) (suc i) d lt same = ap (λ (ys : List X). f x ∷ ys) (kept_suc f xs i d (omega arith) same)
-
-  -- the element at the place stays, as the change leaves it
-  pub kept_more : (f : X → X) (xs now : List X) (i : ℕ) (old : X) → i < length xs → now ≡ changed_to f i xs → old ≡ get_or now i old → f old ≡ old
-      → (now ≡ changed_to f (i + 1) xs) × (old ≡ get_or xs i old)
-  kept_more f xs now i old lt is at same =
-      let here : old ≡ get_or xs i old = at ∙ ap (λ (ys : List X). get_or ys i old) is ∙ changed-at f xs i old in (
-        is ∙ kept_suc f xs i old lt (rw (← here) same) ∙ ap (λ (n : ℕ). changed_to f n xs) (let same : suc i ≡ i + 1 = omega arith in same),
-        here,
-      )
 
   -- one look more was taken where one was due
   pub some_more : (test : X → Bool) (xs : List X) (i : ℕ) (x : X) (start before after : ℕ) → i < length xs → x ≡ get_or xs i x

@@ -1,24 +1,15 @@
 -- The order of names on the way ahead and back.
-use Rattle.std.proofs.Common.{◌≡◌, Bool, true, false, not, refl, ap, ◌∙◌}
-use Rattle.std.specs.declared.cmp.Ordering.{Ordering}
+use Rattle.std.proofs.Common.{◌≡◌, Bool, true, false, not, ap, ◌∙◌}
 use Rattle.std.specs.declared.cmp.Ordering.TheVariants.{Less, Equal, Greater}
 use Rattle.std.specs.Ordering.{is_lt, is_eq, ordering_reverse}
+use Rattle.std.specs.Cmp.{Equal-is}
 use Rattle.std.proofs.lemmas.Cmp.{tied_itself, tied_back}
 use Rattle.mvcc_key.specs.Order.{Name, name_cmp, is_same_name}
 use Rattle.mvcc_key.proofs.OrderLaws.{name_cmp-total, name_cmp-IsAntisymmetric}
+use Rattle.mvcc_key.proofs.TimeLaws.{less_from}
 use Rattle.merge_cursor.specs.views.Standing.{precedes}
 
--- ---- what tests of an order say
-
-pub less_of : (o : Ordering) → is_lt o ≡ true → o ≡ Less
-less_of Less h = refl
-less_of Equal h = absurd cc
-less_of Greater h = absurd cc
-
-pub equal-of : (o : Ordering) → is_eq o ≡ true → o ≡ Equal
-equal-of Less h = absurd cc
-equal-of Equal h = refl
-equal-of Greater h = absurd cc
+-- ---- names that tie
 
 -- the other way round
 pub back-greater : (a b : Name) → name_cmp a b ≡ Less → name_cmp b a ≡ Greater
@@ -29,7 +20,7 @@ back-less a b h = name_cmp-total.antisymm b a ∙ ap ordering_reverse h
 
 -- names that tie are one name
 pub is_same_name-one : (a b : Name) → is_same_name a b ≡ true → a ≡ b
-is_same_name-one a b h = name_cmp-IsAntisymmetric a b (equal-of (name_cmp a b) h)
+is_same_name-one a b h = name_cmp-IsAntisymmetric a b ((Equal-is (name_cmp a b)).0 h)
 
 -- a name is itself
 pub is_same_name-itself : (a : Name) → is_same_name a a ≡ true
@@ -52,8 +43,8 @@ precedes-greater false a b h = ap is_lt (back-less a b h)
 
 -- one before another that is before a third is before it
 pub precedes-trans : (ahead : Bool) (a b c : Name) → precedes ahead a b ≡ true → precedes ahead b c ≡ true → precedes ahead a c ≡ true
-precedes-trans true a b c h k = ap is_lt (name_cmp-total.trans a b c (less_of _ h) (less_of _ k))
-precedes-trans false a b c h k = ap is_lt (name_cmp-total.trans c b a (less_of _ k) (less_of _ h))
+precedes-trans true a b c h k = ap is_lt (name_cmp-total.trans a b c (less_from _ h) (less_from _ k))
+precedes-trans false a b c h k = ap is_lt (name_cmp-total.trans c b a (less_from _ k) (less_from _ h))
 
 -- none is before itself
 pub precedes-itself : (ahead : Bool) (a : Name) → precedes ahead a a ≡ false

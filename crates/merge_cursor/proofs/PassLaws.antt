@@ -3,7 +3,7 @@ use Rattle.std.proofs.Common.{◌≡◌, ℕ, ◌+◌, ◌≤◌, Bool, true, fa
 use Rattle.std.specs.Prelude.{All, slice_get, Some, IsTrue}
 use Rattle.std.specs.List.{AllByRecursion}
 use Rattle.std.proofs.lemmas.List.{map-append, take_at, length-map}
-use Rattle.std.proofs.lemmas.List.Elements.{All-head, All-tail, All-from_recursion}
+use Rattle.std.proofs.lemmas.List.Elements.{All-from_recursion, recursion_from_All}
 use Rattle.std.proofs.lemmas.List.Sums.{sum_by-append, sum_by-cons}
 use Rattle.mvcc_key.specs.Order.{Name}
 use Rattle.mvcc_key.specs.Points.{Point, point_at}
@@ -12,11 +12,6 @@ use Rattle.merge_cursor.specs.declared.moves.Move.{Move}
 use Rattle.merge_cursor.specs.views.Moves.{moved, is_at, passed, looks_of, passing_looks}
 use Rattle.merge_cursor.proofs.OrderLaws.{is_same_name-itself}
 use Rattle.merge_cursor.proofs.HeadLaws.{head_of-part}
-
--- what holds of all, by recursion
-pub each-of_all : {X : Type 0} (P : X → Type 0) (xs : List X) → All P xs → AllByRecursion P xs
-each-of_all P [] h = tt
-each-of_all P (x ∷ xs) h = (All-head P x xs h, each-of_all P xs (All-tail P x xs h))
 
 -- parts that do not stand at the name stay
 stay : (to : Move) (n : Name) (parts : List Standing) → AllByRecursion (λ s. is_at n (head s) ≡ false) parts → parts ≡ map (passed to n) parts
@@ -30,7 +25,7 @@ pub passed-parts : (to : Move) (n : Name) (newer : List Standing) (here here' : 
     → All (λ s. is_at n (head s) ≡ false) newer → is_at n (head here) ≡ true → here' ≡ moved to here → older' ≡ map (passed to n) older
     → newer ++ here' ∷ older' ≡ map (passed to n) (newer ++ here ∷ older)
 passed-parts to n newer here here' older older' others itself is_here is_older =
-    ap (λ (ss : List Standing). ss ++ here' ∷ older') (stay to n newer (each-of_all (λ s. is_at n (head s) ≡ false) newer others))
+    ap (λ (ss : List Standing). ss ++ here' ∷ older') (stay to n newer (recursion_from_All (λ s. is_at n (head s) ≡ false) newer others))
     ∙ ap (λ (s : Standing). map (passed to n) newer ++ s ∷ older') (is_here ∙ ap (λ (b : Bool). cond b (moved to here) here) (sym itself))
     ∙ ap (λ (ss : List Standing). map (passed to n) newer ++ passed to n here ∷ ss) is_older
     ∙ sym (map-append (passed to n) newer (here ∷ older))
@@ -113,7 +108,7 @@ module _ {X : Type 0} (points : X → List Point) (place : X → ℕ) (is_part :
       let seen : X → Standing = standing points place is_part in
       let P : Standing → Type 0 = λ s. IsTrue s.is_part in
       let all = parted-all parts newer here older current parted in
-      let each = each_back P (map seen newer) (seen here) (map seen older) (subst (AllByRecursion P) all (each-of_all P (standings points place is_part parts) are)) in
+      let each = each_back P (map seen newer) (seen here) (map seen older) (subst (AllByRecursion P) all (recursion_from_All P (standings points place is_part parts) are)) in
       let own : is_at p.name (head (seen here)) ≡ true = ap (is_at p.name) at ∙ is_same_name-itself p.name in
       rw all
       (passed-looks to p.name (map seen newer) (seen here) (map seen older) start between after own

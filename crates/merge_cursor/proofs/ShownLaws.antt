@@ -8,18 +8,19 @@ use Rattle.std.specs.declared.cmp.Ordering.TheVariants.{Less, Equal, Greater}
 use Rattle.std.specs.Ordering.{is_lt, is_le, is_eq}
 use Rattle.std.proofs.lemmas.Option.{slice_get_past}
 use Rattle.std.proofs.lemmas.List.Sums.{sum_by-cons}
+use Rattle.std.proofs.lemmas.List.Elements.{recursion_from_All}
 use Rattle.mvcc_key.specs.Order.{Name, name_cmp, is_same_name}
 use Rattle.mvcc_key.specs.Points.{Point, IsRising, point_at}
 use Rattle.mvcc_key.proofs.PointLaws.{point_at-next}
+use Rattle.mvcc_key.proofs.EachLaws.{All-at, All-from_places}
 use Rattle.merge_cursor.specs.Merged.{merged}
 use Rattle.merge_cursor.specs.views.Standing.{Standing, standings, lists_of, head, heads, head_of, cut_of, count_in, place_in, positioned, has_name, IsAligned, merged_place}
 use Rattle.merge_cursor.specs.declared.moves.Move.TheVariants.{Next, Prev}
 use Rattle.merge_cursor.specs.views.Moves.{moved, is_at, passed, passing_looks, cut_past, cut_before}
 use Rattle.merge_cursor.proofs.OrderLaws.{is_same_name-one}
-use Rattle.merge_cursor.proofs.PassLaws.{each-of_all}
 use Rattle.merge_cursor.proofs.LeadingLaws.{refused}
 use Rattle.merge_cursor.proofs.CutLaws.{count_in-le, count_in-all, count_in-none, count_in-agree}
-use Rattle.merge_cursor.proofs.MergedLaws.{each-of_index, each-at, point_of-rising, point_of-first, IsThere, there-at, there-merged}
+use Rattle.merge_cursor.proofs.MergedLaws.{point_of-rising, point_of-first, IsThere, there-at, there-merged}
 use Rattle.merge_cursor.proofs.AlignLaws.{part_of, placed-at}
 
 -- the parts' points rise
@@ -41,9 +42,9 @@ pub aligned-there : (ahead : Bool) (parts : List Standing) (current : ℕ) (q : 
 aligned-there ahead parts current q rising s at =
     let part = part_of parts current q at in
     let place = slice_of part.0.points part.0.place q part.2 in
-    let first = point_of-rising part.0.points place.0 q (each-at (λ t. IsRising t.points) parts current part.0 rising part.1) place.2 in
+    let first = point_of-rising part.0.points place.0 q (All-at (λ t. IsRising t.points) parts current part.0 rising part.1) place.2 in
     there-merged q (lists_of parts)
-    (point_of-first q.name q parts current part.0 part.1 (each-of_all (λ t. has_name q.name t.points ≡ false) (take current parts) (s.newest q at)) first)
+    (point_of-first q.name q parts current part.0 part.1 (recursion_from_All (λ t. has_name q.name t.points ≡ false) (take current parts) (s.newest q at)) first)
 
 -- the merged point at the merged place is the current one
 pub shown : (ahead : Bool) (parts : List Standing) (current : ℕ) → AllByRecursion (λ s. IsRising s.points) parts → IsAligned ahead parts current
@@ -142,7 +143,7 @@ more_there n ps i t rising at same =
 
 -- where it does not have it they are the same
 same_else : (n : Name) (ps : List Point) → ((i : ℕ) (t : Point) → slice_get ps i ≡ Some t → is_same_name t.name n ≡ false) → count_in (up_to n) ps ≡ count_in (below n) ps
-same_else n ps h = count_in-agree (up_to n) (below n) ps (each-of_index (λ t. up_to n t.name ≡ below n t.name) ps (λ i t at. below_is_up_to n t.name (h i t at)))
+same_else n ps h = count_in-agree (up_to n) (below n) ps (All-from_places (λ t. up_to n t.name ≡ below n t.name) ps (λ i t at. below_is_up_to n t.name (h i t at)))
 
 -- a test does not both hold and fail
 clash : (b : Bool) → b ≡ true → b ≡ false → ⊥
@@ -186,7 +187,7 @@ pub passed-on : (n : Name) (parts : List Standing) → AllByRecursion (λ s. IsR
     → map (passed Next n) parts ≡ positioned true (up_to n) parts
 passed-on n parts rising is =
     each_changed (passed Next n) (λ s. put_at s (place_in true (up_to n) s.points)) parts
-    (λ i s at. by s (placed-at true (below n) parts i s is at) (each-at (λ t. IsRising t.points) parts i s rising at))
+    (λ i s at. by s (placed-at true (below n) parts i s is at) (All-at (λ t. IsRising t.points) parts i s rising at))
   where
     by : (s : Standing) → s.place ≡ count_in (below n) s.points + 1 → IsRising s.points
         → passed Next n s ≡ put_at s (count_in (up_to n) s.points + 1)
@@ -202,7 +203,7 @@ pub passed-back : (n : Name) (parts : List Standing) → AllByRecursion (λ s. I
     → map (passed Prev n) parts ≡ positioned false (below n) parts
 passed-back n parts rising is =
     each_changed (passed Prev n) (λ s. put_at s (place_in false (below n) s.points)) parts
-    (λ i s at. by s (placed-at false (up_to n) parts i s is at) (each-at (λ t. IsRising t.points) parts i s rising at))
+    (λ i s at. by s (placed-at false (up_to n) parts i s is at) (All-at (λ t. IsRising t.points) parts i s rising at))
   where
     by : (s : Standing) → s.place ≡ count_in (up_to n) s.points → IsRising s.points
         → passed Prev n s ≡ put_at s (count_in (below n) s.points)
@@ -220,7 +221,7 @@ passed-counts n parts rising is = all parts (λ i s at. more i s at)
   where
     more : (i : ℕ) (s : Standing) → slice_get parts i ≡ Some s → count_in (up_to n) s.points ≡ count_in (below n) s.points + passing_looks Next n s
     more i s at =
-        counts-front n s.points (each-at (λ t. IsRising t.points) parts i s rising at)
+        counts-front n s.points (All-at (λ t. IsRising t.points) parts i s rising at)
         ∙ ap (λ (k : ℕ). count_in (below n) s.points + cond (is_at n (point_at s.points k)) 1 0) (sym (placed-at true (below n) parts i s is at))
 
     all : (ss : List Standing) → ((i : ℕ) (s : Standing) → slice_get ss i ≡ Some s → count_in (up_to n) s.points ≡ count_in (below n) s.points + passing_looks Next n s)

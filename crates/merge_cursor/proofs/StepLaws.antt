@@ -5,21 +5,21 @@ use Rattle.std.specs.List.{AllByRecursion}
 use Rattle.std.specs.declared.option.Option.{Option}
 use Rattle.std.proofs.lemmas.Bool.{lt-ltb, le-leb, ltb-false}
 use Rattle.std.proofs.lemmas.List.{length-map, nil_from_length}
-use Rattle.std.proofs.lemmas.List.Elements.{All-from_recursion}
+use Rattle.std.proofs.lemmas.List.Elements.{recursion_from_All, All-from_recursion}
 use Rattle.std.proofs.lemmas.List.Sums.{sum_by-cons}
 use Rattle.std.specs.Borrow.{Bor}
 use Rattle.mvcc_key.specs.Order.{Name}
 use Rattle.mvcc_key.specs.Encoded.{name_in}
 use Rattle.mvcc_key.specs.Points.{Point, IsRising, AreEncodable, point_at}
 use Rattle.mvcc_key.proofs.PointLaws.{point_at-some, point_at-none}
+use Rattle.mvcc_key.proofs.EachLaws.{All-at, All-from_places}
 use Rattle.merge_cursor.specs.Merged.{joined, merged}
 use Rattle.merge_cursor.specs.views.Standing.{Standing, lists_of, head, heads, head_of, cut_of, count_in, place_in, positioned, has_name, IsLeading, IsAligned, merged_place}
 use Rattle.merge_cursor.specs.declared.moves.Move.TheVariants.{SeekGe, SeekLt, Next, Prev}
 use Rattle.merge_cursor.specs.views.Moves.{moved, takes_look, is_at, passed, passing_looks, cut_past, cut_before}
-use Rattle.merge_cursor.proofs.PassLaws.{each-of_all}
 use Rattle.merge_cursor.proofs.LeadingLaws.{head_of-past}
 use Rattle.merge_cursor.proofs.CutLaws.{IsCut, count_in-below}
-use Rattle.merge_cursor.proofs.MergedLaws.{each-of_index, each-at, merged-none}
+use Rattle.merge_cursor.proofs.MergedLaws.{merged-none}
 use Rattle.merge_cursor.proofs.AlignLaws.{part_of, by_cut, Aligns, aligns}
 use Rattle.merge_cursor.proofs.ShownLaws.{turned-on, turned-back, passed-on, passed-back, passed-counts, not_there, below, shown}
 
@@ -107,8 +107,8 @@ pub none_newer : (ahead : Bool) (parts : List Standing) (current : ℕ) (p : Poi
     → All (λ s. is_at p.name (head s) ≡ false) (take current parts)
 none_newer ahead parts current p s at =
     All-from_recursion (λ t. is_at p.name (head t) ≡ false) (take current parts)
-    (each-of_index (λ t. is_at p.name (head t) ≡ false) (take current parts)
-    (λ i t is. not_there p.name t (each-at (λ r. has_name p.name r.points ≡ false) (take current parts) i t (each-of_all (λ r. has_name p.name r.points ≡ false) (take current parts) (s.newest p at)) is)))
+    (All-from_places (λ t. is_at p.name (head t) ≡ false) (take current parts)
+    (λ i t is. not_there p.name t (All-at (λ r. has_name p.name r.points ≡ false) (take current parts) i t (recursion_from_All (λ r. has_name p.name r.points ≡ false) (take current parts) (s.newest p at)) is)))
 
 -- ---- looks
 

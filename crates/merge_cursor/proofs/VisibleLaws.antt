@@ -2,21 +2,20 @@
 use Rattle.std.proofs.Common.{◌≡◌, inl, inr, ℕ, zero, suc, ◌+◌, ◌-◌, ◌<◌, ◌≤◌, Bool, true, false, cond, List, [], ◌∷◌, length, take, min, refl, sym, ap, ◌∙◌, arith}
 use Rattle.std.specs.Prelude.{slice_get, Some, is_some, IsSome, nat_lt}
 use Rattle.std.specs.List.{AllByRecursion}
-use Rattle.std.specs.List.Sorted.{IsStrictlySortedBy}
 use Rattle.std.specs.declared.option.Option.{Option}
-use Rattle.std.specs.declared.cmp.Ordering.TheVariants.{Less}
 use Rattle.std.specs.Option.{option_and_then}
-use Rattle.std.proofs.lemmas.Bool.{lt-ltb, ltb-true, ltb-false}
+use Rattle.std.proofs.lemmas.Bool.{ltb-true, ltb-false}
 use Rattle.std.proofs.lemmas.List.{take_all}
+use Rattle.std.proofs.lemmas.List.Kept.{IsStrictlySortedBy-filter}
 use Rattle.std.proofs.lemmas.Option.{slice_get_cases, slice_get_within}
 use Rattle.mvcc_key.specs.Order.{Name, is_in_range}
 use Rattle.mvcc_key.specs.Points.{Point, point_cmp, IsRising, AreEncodable, point_at, value_at, count_below}
 use Rattle.mvcc_key.proofs.PointLaws.{rising_rest, rising-first, point_at-next, sorted-rising, rising-sorted}
+use Rattle.mvcc_key.proofs.EachLaws.{All-at, All-filter, All-from_places}
 use Rattle.merge_cursor.specs.views.Standing.{count_in}
 use Rattle.merge_cursor.specs.Visible.{visible, visible_place, StandsVisible}
 use Rattle.merge_cursor.proofs.LeadingLaws.{refused}
 use Rattle.merge_cursor.proofs.CutLaws.{below-IsCut, count_in-yes, count_in-no, count_in-below}
-use Rattle.merge_cursor.proofs.MergedLaws.{each-of_index, each-at}
 use Rattle.merge_cursor.proofs.ShownLaws.{below}
 
 -- whether a point is set
@@ -25,31 +24,14 @@ is_set p = is_some p.value
 
 -- ---- what holds of them
 
-each_visible : (P : Point → Type 0) (ps : List Point) → AllByRecursion P ps → AllByRecursion P (visible ps)
-each_visible P [] h = tt
-each_visible P (p ∷ ps) h = by (is_set p) (each_visible P ps h.1)
-  where
-    by : (b : Bool) → AllByRecursion P (visible ps) → AllByRecursion P (cond b (p ∷ visible ps) (visible ps))
-    by true rest = (h.0, rest)
-    by false rest = rest
-
-sorted_visible : (ps : List Point) → IsStrictlySortedBy point_cmp ps → IsStrictlySortedBy point_cmp (visible ps)
-unfolding IsStrictlySortedBy
-sorted_visible [] s = tt
-sorted_visible (p ∷ ps) s = by (is_set p) (sorted_visible ps s.1)
-  where
-    by : (b : Bool) → IsStrictlySortedBy point_cmp (visible ps) → IsStrictlySortedBy point_cmp (cond b (p ∷ visible ps) (visible ps))
-    by true rest = (each_visible (λ q. point_cmp p q ≡ Less) ps s.0, rest)
-    by false rest = rest
-
 -- they rise
 pub rising-visible : (ps : List Point) → IsRising ps → IsRising (visible ps)
-rising-visible ps rising = rising-sorted (visible ps) (sorted_visible ps (sorted-rising ps rising))
+rising-visible ps rising = rising-sorted (visible ps) (IsStrictlySortedBy-filter point_cmp is_set ps (sorted-rising ps rising))
 
 -- their names have encodings
 pub encodable-visible : (ps : List Point) → AreEncodable ps → AreEncodable (visible ps)
 encodable-visible ps e i p at =
-    each-at (λ q. is_in_range q.name.ts ≡ true) (visible ps) i p (each_visible (λ q. is_in_range q.name.ts ≡ true) ps (each-of_index (λ q. is_in_range q.name.ts ≡ true) ps e)) at
+    All-at (λ q. is_in_range q.name.ts ≡ true) (visible ps) i p (All-filter (λ q. is_in_range q.name.ts ≡ true) is_set ps (All-from_places (λ q. is_in_range q.name.ts ≡ true) ps e)) at
 
 -- ---- how many are set among the first
 
@@ -79,15 +61,6 @@ visible_le (p ∷ ps) (suc n) = by (is_set p) (visible_le ps n)
     by true le = omega arith
     by false le = le
 
--- no more are set than there are
-pub length-visible : (ps : List Point) → length (visible ps) ≤ length ps
-length-visible [] = omega arith
-length-visible (p ∷ ps) = by (is_set p) (length-visible ps)
-  where
-    by : (b : Bool) → length (visible ps) ≤ length ps → length (cond b (p ∷ visible ps) (visible ps)) ≤ suc (length ps)
-    by true le = omega arith
-    by false le = omega arith
-
 -- the point at a place that has one
 point_of_place : (ps : List Point) (k : ℕ) → 0 < k → k ≤ length ps → (n : ℕ) × (p : Point) × (k ≡ suc n) × (slice_get ps n ≡ Some p) × (point_at ps k ≡ Some p)
 point_of_place ps zero low high = absurd (omega arith)
@@ -114,10 +87,6 @@ shows_more ps k low high set =
     ∙ ap (λ (m : ℕ). length (visible (take m ps)) + 1) (let e = h.2 in let back : h.0 ≡ k - 1 = omega arith in back)
 
 -- ---- places
-
--- past the end
-place-past : (ps : List Point) (k : ℕ) → length ps < k → visible_place ps k ≡ length (visible ps) + 1
-place-past ps k past = ap (λ (b : Bool). cond b (length (visible ps) + 1) (length (visible (take k ps)))) (lt-ltb (length ps) k past)
 
 -- up to the end
 pub place-within : (ps : List Point) (k : ℕ) → k ≤ length ps → visible_place ps k ≡ length (visible (take k ps))
@@ -205,27 +174,16 @@ visible_cut n (p ∷ ps) rising = by (below n p.name) refl (visible_cut n ps (ri
         set false = rest
     by false is rest =
         let others : AllByRecursion (λ q. below n q.name ≡ false) ps =
-        each-of_index (λ q. below n q.name ≡ false) ps
+        All-from_places (λ q. below n q.name ≡ false) ps
         (λ i q at. refused (below n q.name) (λ yes. (let low = (below-IsCut n).down p.name q.name (rising-first (λ (r : Point). r.name) p ps rising i q at) yes in cc))) in
         let all : AllByRecursion (λ q. below n q.name ≡ false) (p ∷ ps) = (is, others) in
         ap (λ (m : ℕ). length (visible (take m (p ∷ ps)))) (none_below n (p ∷ ps) all)
-        ∙ sym (none_below n (visible (p ∷ ps)) (each_visible (λ q. below n q.name ≡ false) (p ∷ ps) all))
+        ∙ sym (none_below n (visible (p ∷ ps)) (All-filter (λ q. below n q.name ≡ false) is_set (p ∷ ps) all))
 
 -- those below a name that are set
 pub visible-below : (n : Name) (ps : List Point) → IsRising ps → length (visible (take (count_below n ps) ps)) ≡ count_below n (visible ps)
 visible-below n ps rising =
     ap (λ (m : ℕ). length (visible (take m ps))) (sym (count_in-below n ps)) ∙ visible_cut n ps rising ∙ count_in-below n (visible ps)
-
--- ---- ends
-
--- a visible place between the ends is one among all
-pub inside : (ps : List Point) (k : ℕ) → 0 < visible_place ps k → visible_place ps k ≤ length (visible ps) → (0 < k) × (k ≤ length ps)
-inside ps zero low high = absurd (let none = place-within ps zero (omega arith) in omega arith)
-inside ps (suc n) low high = (omega arith, by (nat_lt (length ps) (suc n)) refl)
-  where
-    by : (b : Bool) → nat_lt (length ps) (suc n) ≡ b → suc n ≤ length ps
-    by true is = absurd (let past = place-past ps (suc n) (ltb-true (length ps) (suc n) is) in omega arith)
-    by false is = ltb-false (length ps) (suc n) is
 
 -- ---- after a move
 

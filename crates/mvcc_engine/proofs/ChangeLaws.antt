@@ -24,7 +24,8 @@ use Rattle.mvcc_engine.specs.Step.{statistics}
 use Rattle.mvcc_engine.specs.views.Places.{AreVersions, IsPlace, is_of_lower_key, version_at, history_of}
 use Rattle.mvcc_engine.specs.views.Change.{shape, shape_with, change_by, version_pair}
 use Rattle.mvcc_engine.proofs.PairLaws.{stored_pairs-versions}
-use Rattle.mvcc_engine.proofs.VersionLaws.{none-behind, not_same-Less, not_same-Greater, same-Equal, put_in_order-place, sorted-drop, timed-drop}
+use Rattle.mvcc_key.proofs.SameKeyLaws.{below_differs}
+use Rattle.mvcc_engine.proofs.VersionLaws.{none-behind, not_same-Greater, same-Equal, put_in_order-place, sorted-drop, timed-drop}
 use Rattle.stat_core.specs.Laws.{others_of, share, HasNoRecord}
 
 abbrev of_key : Key → List Version → List Version
@@ -58,7 +59,7 @@ of_key-lower key [] ys lower = refl
 of_key-lower key (v ∷ vs) ys lower = by (key_cmp v.key key) refl lower.0 (of_key-lower key vs ys lower.1)
   where
     by : (o : Ordering) → key_cmp v.key key ≡ o → is_lt o ≡ true → of_key key (vs ++ ys) ≡ of_key key ys → of_key key (v ∷ (vs ++ ys)) ≡ of_key key ys
-    by Less is low rest = rw (not_same-Less v.key key is) rest
+    by Less is low rest = rw (below_differs v.key key is) rest
     by Equal is low rest = cc
     by Greater is low rest = cc
 

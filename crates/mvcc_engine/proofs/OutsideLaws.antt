@@ -54,7 +54,7 @@ module _ (versions : List Version) (tombstones : List RangeTombstone) (key : Key
 
   -- a read
   pub get-outside : reading.get h (read_at ts) key ≡ Ok (record { found = get h key ts; intents = [] })
-  unfolding reading.get reading.decide reading.decision reading.listed get
+  unfolding reading.get reading.decide reading.listed get
   get-outside =
       rw (find-never (is_more_recent (read_at ts)) (λ i. refl) (items h key), find-never (is_unsure (read_at ts)) (sure ts) (items h key))
       (row-outside key (newest_at ts (items h key)))

@@ -30,7 +30,7 @@ use Rattle.mvcc_engine.specs.views.Stored.{Held, IsShort}
 use Rattle.mvcc_engine.specs.views.Change.{shape, change_by, change_by_shapes}
 use Rattle.mvcc_engine.specs.views.Kept.{IsKept, IsCounted}
 use Rattle.mvcc_engine.specs.views.Plan.{IsPlanned}
-use Rattle.mvcc_engine.specs.views.Seen.{Tells}
+use Rattle.write_rule.specs.views.Seen.{Tells}
 use Rattle.mvcc_engine.proofs.RuleLaws.{newest-item, past-free, past-older, past-stopped, change-in_the_way, change-free, settled-over, settled-within}
 use Rattle.mvcc_engine.proofs.KeptLaws.{counted-put, settled-is, settled-no_debt}
 use Rattle.mvcc_engine.proofs.StoredLaws.{IsPlace-lower}

@@ -14,9 +14,10 @@ use Rattle.mvcc_engine.specs.views.Outside.{get, item_row}
 use Rattle.mvcc_engine.specs.views.Outside.{checked, past_newest, new_version, is_present, write}
 use Rattle.mvcc_engine.specs.Step.{State, Reply, statistics, stored_walls, greatest, settled, parts_after, change}
 use Rattle.mvcc_engine.specs.views.Places.{AreVersions, is_ahead, is_of_lower_key, version_at, newest_version, in_the_way, history_of}
-use Rattle.mvcc_engine.specs.views.Seen.{Tells}
+use Rattle.write_rule.specs.views.Seen.{Tells}
 use Rattle.mvcc_key.proofs.OrderLaws.{not_up_to-before, not_up_to-none}
-use Rattle.mvcc_engine.proofs.VersionLaws.{items-history_of, newest_at-place, newest-place, up_to-not_before}
+use Rattle.mvcc_key.proofs.TimeLaws.{not_before}
+use Rattle.mvcc_engine.proofs.VersionLaws.{items-history_of, newest_at-place, newest-place}
 use Rattle.mvcc_engine.proofs.StoredLaws.{IsPlace-lower, IsPlace-ahead, row-found}
 use Rattle.mvcc_key.specs.Points.{Point, point_at, count_below}
 use Rattle.mvcc_engine.specs.declared.version.VersionRef.{VersionRef}
@@ -87,7 +88,7 @@ past-stopped ts (Some v) body t stopped = by (is_before v.ts ts) refl stopped
   where
     by : (b : Bool) → is_before v.ts ts ≡ b → cond b None (Some v.ts) ≡ Some t → past_newest ts (Some (version_item v)) body ≡ Err (TooOld t)
     by true is stopped' = cc
-    by false is stopped' = let same : v.ts ≡ t = cc in rw (up_to-not_before v.ts ts is, same) refl
+    by false is stopped' = let same : v.ts ≡ t = cc in rw (not_before v.ts ts is, same) refl
 
 module _ (s : State) (key : Key) (ts : Timestamp) (body : Body) (reply : Bool → Reply) where
   -- what the tests of key, value and timestamp tell, the write tells

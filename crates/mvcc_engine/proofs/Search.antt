@@ -10,6 +10,7 @@ use Rattle.mvcc_key.specs.Lists.{first}
 use Rattle.mvcc_key.specs.Order.{Timestamp, Key, time_cmp, key_cmp, is_before, is_no_time}
 use Rattle.mvcc_key.specs.History.{Version, version_cmp}
 use Rattle.mvcc_key.proofs.OrderLaws.{time_cmp-total, key_cmp-total, key_cmp-IsAntisymmetric}
+use Rattle.mvcc_key.proofs.TimeLaws.{less_from, before_less}
 use Rattle.mvcc_engine.specs.views.Places.{is_ahead, is_of_lower_key}
 use Rattle.mvcc_engine.proofs.VersionLaws.{version_cmp-of_one}
 
@@ -32,18 +33,13 @@ module _ (test : Version → Bool) where
       each [] timed' less = tt
       each (y ∷ ys) timed' less = (along x y timed.0 timed'.0 less.0, each ys timed'.1 less.1)
 
-less_of : (o : Ordering) → is_lt o ≡ true → o ≡ Less
-less_of Less h = refl
-less_of Equal h = cc
-less_of Greater h = cc
-
 -- a version before another has no higher key
 key_before : (v w : Version) (o : Ordering) → key_cmp v.key w.key ≡ o → version_cmp v w ≡ Less → key_cmp v.key w.key ≢ Greater
 key_before v w o is less higher = let above : version_cmp v w ≡ Greater = rw higher refl in cc
 
 -- what is before a version of a lower key is of a lower key
 pub lower-back : (key : Key) (v w : Version) → is_no_time v.ts ≡ false → is_no_time w.ts ≡ false → version_cmp v w ≡ Less → is_of_lower_key key w ≡ true → is_of_lower_key key v ≡ true
-lower-back key v w timed timed' less lower = by (key_cmp v.key w.key) refl (less_of (key_cmp w.key key) lower)
+lower-back key v w timed timed' less lower = by (key_cmp v.key w.key) refl (less_from (key_cmp w.key key) lower)
   where
     by : (o : Ordering) → key_cmp v.key w.key ≡ o → key_cmp w.key key ≡ Less → is_lt (key_cmp v.key key) ≡ true
     by Less is low = let e : key_cmp v.key key ≡ Less = key_cmp-total.trans v.key w.key key is low in rw e refl
@@ -59,7 +55,7 @@ ahead-back key ts v w timed timed' less ahead = by (key_cmp v.key w.key) (key_cm
 
     is_newer : is_lt (time_cmp ts w.ts) ≡ true → time_cmp w.ts v.ts ≡ Less → is_lt (time_cmp ts v.ts) ≡ true
     is_newer first second =
-        let e : time_cmp ts v.ts ≡ Less = time_cmp-total.trans ts w.ts v.ts (less_of (time_cmp ts w.ts) first) second in rw e refl
+        let e : time_cmp ts v.ts ≡ Less = time_cmp-total.trans ts w.ts v.ts (before_less ts w.ts first) second in rw e refl
 
     by : (o p : Ordering) → key_cmp v.key w.key ≡ o → key_cmp w.key key ≡ p → match_ordering p true (is_before ts w.ts) false ≡ true → is_ahead key ts v ≡ true
     by Less Less is low passes = let e : key_cmp v.key key ≡ Less = key_cmp-total.trans v.key w.key key is low in rw e refl

@@ -13,7 +13,8 @@ use Rattle.mvcc_key.specs.declared.memory.OutOfMemory.{OutOfMemory}
 use Rattle.lsm_store.specs.Parts.{flushed, compacted}
 use Rattle.mvcc_engine.specs.views.Stored.{Held}
 use Rattle.mvcc_engine.specs.views.Outside.{write}
-use Rattle.mvcc_engine.specs.views.Seen.{Tells, AnswersUnlessFull}
+use Rattle.write_rule.specs.views.Seen.{Tells}
+use Rattle.mvcc_engine.specs.views.Seen.{AnswersUnlessFull}
 use Rattle.mvcc_engine.specs.views.Places.{history_of}
 use Rattle.mvcc_engine.proofs.PlanLaws.{state_of}
 use Rattle.mvcc_engine.proofs.RuleLaws.{settled-over, settled-within}

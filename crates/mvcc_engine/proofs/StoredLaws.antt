@@ -12,19 +12,21 @@ use Rattle.mvcc_key.specs.Lists.{put_in_order}
 use Rattle.mvcc_key.specs.Order.{Timestamp, Key, Name, Pair, no_time, is_no_time, is_before, is_same_key, key_cmp, name_cmp}
 use Rattle.mvcc_key.specs.KeyFormat.{encoded_name, name_of}
 use Rattle.mvcc_value.specs.Encoding.{value_bytes, value_of}
-use Rattle.mem_table.proofs.OrderedLaws.{each-at}
 use Rattle.mvcc_key.specs.Points.{Point, AreEncodable, point_cmp, point_at, key_at, value_at, is_below_name, count_below}
-use Rattle.mvcc_key.proofs.OrderLaws.{key_cmp-IsAntisymmetric}
-use Rattle.mvcc_key.proofs.EachLaws.{All-put}
+use Rattle.mvcc_key.proofs.EachLaws.{All-at, All-put}
 use Rattle.mvcc_key.proofs.KeyFormatLaws.{name_of-encoded_name}
 use Rattle.mvcc_key.proofs.PointLaws.{point_at-next}
 use Rattle.merge_cursor.proofs.HeadLaws.{in_range-at}
 use Rattle.mvcc_key.specs.History.{Version, version_cmp}
 use Rattle.mvcc_key.proofs.SortedLaws.{in_order-same}
 use Rattle.merge_cursor.specs.Visible.{visible}
-use Rattle.mvcc_key.specs.Fragments.{fragments}
+use Rattle.mvcc_key.specs.Fragments.{Fragment, fragments}
 use Rattle.lsm_store.specs.Parts.{after_batch}
-use Rattle.lsm_store.specs.Shown.{shown, pairs_of, parts_of, stage_of, with_batch}
+use Rattle.mvcc_key.specs.views.SeenRange.{range_ops_of}
+use Rattle.mvcc_key.specs.declared.batch.RangeOp.{RangeOp}
+use Rattle.range_key.specs.RangeOps.{fragments_after}
+use Rattle.run_block.specs.RunFormat.{Run}
+use Rattle.lsm_store.specs.Shown.{points_in, shown, fragments_in, pairs_of, parts_of, stage_of, with_batch}
 use Rattle.lsm_store.proofs.ApplyLaws.{sorted-shown}
 use Rattle.mvcc_engine.specs.declared.version.VersionRef.{VersionRef}
 use Rattle.mvcc_engine.specs.views.Lent.{lent_point}
@@ -34,11 +36,11 @@ use Rattle.stat_core.specs.DeadSince.{VersionShape, shape_of}
 use Rattle.mvcc_key.specs.views.Seen.{time_of}
 use Rattle.mvcc_engine.specs.views.Places.{AreVersions, IsPlace, is_ahead, is_of_lower_key, version_at, newest_version, history_of}
 use Rattle.intent_meta.specs.StoredPairs.{stored_pairs, stored_value}
-use Rattle.mvcc_engine.specs.views.Stored.{stored_version, stored_versions, stored_point, of_key, IsVersion, bytes_in}
+use Rattle.mvcc_engine.specs.views.Stored.{stored_version, stored_versions, stored_point, of_key, IsVersion, bytes_in, HoldsVersions}
 use Rattle.mvcc_engine.specs.views.Spelled.{spelled_body}
 use Rattle.mvcc_engine.proofs.SpelledLaws.{spelled-whole}
 use Rattle.mvcc_engine.proofs.PairLaws.{stored_pairs-versions}
-use Rattle.mvcc_engine.proofs.VersionLaws.{tied}
+use Rattle.mvcc_key.proofs.StackLaws.{same_key_is}
 use Rattle.mvcc_engine.proofs.Search.{PassesBack, passes_back, lower-back, ahead-back}
 
 -- ---- order
@@ -62,6 +64,7 @@ AreVersions-points ps sorted all = record { sorted = sorted_versions ps sorted; 
 
 -- ---- pairs
 
+-- the pair of a first point that is set
 pairs-first : (p : Point) (ps : List Point) (bytes : List ℕ) → p.value ≡ Some bytes → pairs_of (p ∷ ps) ≡ record { name = p.name; value = bytes } ∷ pairs_of ps
 unfolding pairs_of
 pairs-first p ps bytes is = rw is refl
@@ -189,17 +192,21 @@ versions-put p (q ∷ qs) =
     ]
 
 -- the pairs and fragments of what is shown are those of its history
-stages-are : (lists : List (List Point)) → AllByRecursion IsVersion (shown lists) → stage_of lists ≡ stage (history_of (stored_versions (shown lists)))
+stages-are : (parts : List Run) → AllByRecursion IsVersion (shown parts) → fragments_in parts ≡ [] → stage_of parts ≡ stage (history_of (stored_versions (shown parts)))
 unfolding fragments
-stages-are lists all = ap (λ (l : List Pair). record { pairs = l; fragments = [] }) (pairs-versions (shown lists) (sorted-shown lists) all)
+stages-are parts all none = λ i. record { pairs = pairs-versions (shown parts) (sorted-shown (points_in parts)) all i; fragments = none i }
 
-module _ (old new : List (List Point)) (batch : List Point) (v : Version) (one : batch ≡ stored_point v ∷ []) (whole : stored_version (stored_point v) ≡ v) (timed : is_no_time v.ts ≡ false)
+-- a batch without range operations leaves the fragments
+pub left-alone : (ops : List RangeOp) (old : List Fragment) {new : List Fragment} → ops ≡ [] → new ≡ fragments_after old (range_ops_of ops) → new ≡ old
+left-alone ops old none is = is ∙ ap (λ (os : List RangeOp). fragments_after old (range_ops_of os)) none
+
+module _ (old new : List Run) (batch : List Point) (v : Version) (one : batch ≡ stored_point v ∷ []) (whole : stored_version (stored_point v) ≡ v) (timed : is_no_time v.ts ≡ false)
     (all : AllByRecursion IsVersion (shown old)) (is : shown new ≡ with_batch batch (shown old)) where
   one_version : IsVersion (stored_point v)
   one_version = record { timed = timed; spelled = ap (λ w. Some (stored_value w)) (sym whole) }
 
   put-shown : shown new ≡ put_in_order point_cmp (stored_point v) (shown old)
-  put-shown = is ∙ ap (λ b. with_batch b (shown old)) one ∙ batch-put (stored_point v) (shown old) one_version (sorted-shown old) all
+  put-shown = is ∙ ap (λ b. with_batch b (shown old)) one ∙ batch-put (stored_point v) (shown old) one_version (sorted-shown (points_in old)) all
 
   -- what is shown after a version is put are versions
   pub put-all : AllByRecursion IsVersion (shown new)
@@ -210,20 +217,29 @@ module _ (old new : List (List Point)) (batch : List Point) (v : Version) (one :
   put-versions = ap stored_versions put-shown ∙ versions-put (stored_point v) (shown old) ∙ ap (λ w. put_in_order version_cmp w (stored_versions (shown old))) whole
 
   -- and the parts are those after the change of the history
-  pub put-parts : parts_of new ≡ after_batch (stage_of old) (stage_of new) (parts_of old)
+  pub put-parts : fragments_in old ≡ [] → fragments_in new ≡ [] → parts_of new ≡ after_batch (stage_of old) (stage_of new) (parts_of old)
       → parts_of new ≡ parts_between (history_of (stored_versions (shown old))) (history_of (stored_versions (shown new))) (parts_of old)
-  put-parts parts = parts ∙ ap₂ (λ a b. after_batch a b (parts_of old)) (stages-are old all) (stages-are new put-all)
+  put-parts none now_none parts = parts ∙ ap₂ (λ a b. after_batch a b (parts_of old)) (stages-are old all none) (stages-are new put-all now_none)
 
 -- what two clauses say of an accepted call, together
 pub OnOk-both : {A E : Type 0} {P Q R : Type 0} (result : Result A E) → (P → Q → R) → OnOk result P → OnOk result Q → OnOk result R
 OnOk-both (Ok a) f p q = f p q
 OnOk-both (Err e) f p q = tt
 
--- what is shown after a put, accepted or not, are versions
-pub put-invariant : {A E : Type 0} (old new : List (List Point)) (batch : List Point) (v : Version) → batch ≡ stored_point v ∷ [] → stored_version (stored_point v) ≡ v → is_no_time v.ts ≡ false
-    → AllByRecursion IsVersion (shown old) → (result : Result A E) → OnOk result (shown new ≡ with_batch batch (shown old)) → OnErr result (new ≡ old) → AllByRecursion IsVersion (shown new)
-put-invariant old new batch v one whole timed all (Ok a) is err = put-all old new batch v one whole timed all is
-put-invariant old new batch v one whole timed all (Err e) is err = subst (λ l. AllByRecursion IsVersion (shown l)) (sym err) all
+-- and what three say
+pub OnOk-three : {A E : Type 0} {P Q R S : Type 0} (result : Result A E) → (P → Q → R → S) → OnOk result P → OnOk result Q → OnOk result R → OnOk result S
+OnOk-three (Ok a) f p q r = f p q r
+OnOk-three (Err e) f p q r = tt
+
+-- what is held after a put, accepted or not, are versions
+pub put-invariant : {A E : Type 0} (old new : List Run) (batch : List Point) (v : Version) → batch ≡ stored_point v ∷ [] → stored_version (stored_point v) ≡ v → is_no_time v.ts ≡ false
+    → HoldsVersions old → (ops : List RangeOp) → ops ≡ [] → (result : Result A E) → OnOk result (shown new ≡ with_batch batch (shown old))
+    → OnOk result (fragments_in new ≡ fragments_after (fragments_in old) (range_ops_of ops)) → OnErr result (new ≡ old) → HoldsVersions new
+put-invariant old new batch v one whole timed holds ops alone (Ok a) is fragments err = record {
+  versions = put-all old new batch v one whole timed holds.versions is;
+  no_fragments = left-alone ops (fragments_in old) alone fragments ∙ holds.no_fragments;
+}
+put-invariant old new batch v one whole timed holds ops alone (Err e) is fragments err = subst HoldsVersions (sym err) holds
 
 -- ---- what a cursor finds
 
@@ -305,10 +321,6 @@ other-here : (key : Key) (p : Point) (b : Bool) → is_same_key p.name.key key �
 other-here key p true other = rw other refl
 other-here key p false other = refl
 
--- keys whose test passes are the same
-key_is : (a b : Key) → is_same_key a b ≡ true → a ≡ b
-key_is a b same = key_cmp-IsAntisymmetric a b (tied a b same)
-
 module _ (key : Key) (points : List Point) (place : ℕ) (encoded value : List ℕ) (encodable : AreEncodable points)
     (at : Some encoded ≡ key_at points place) (set : Some value ≡ value_at points place) where
   -- it is the one whose key was read
@@ -321,7 +333,7 @@ module _ (key : Key) (points : List Point) (place : ℕ) (encoded value : List �
       by (Some p) is at' set' =
           let spelled : encoded ≡ encoded_name p.name = cc in
           let name : n ≡ p.name = (let e : Ok n ≡ Ok p.name = read ∙ ap name_of spelled ∙ name_of-encoded_name p.name (in_range-at points place p encodable is) in cc) in
-          let mine : n.key ≡ key = key_is n.key key same in
+          let mine : n.key ≡ key = same_key_is n.key key same in
           let mine' : is_same_key p.name.key key ≡ true = ap (λ (m : Name). is_same_key m.key key) (sym name) ∙ same in
           let point : record { name = record { key = key; ts = n.ts }; value = Some value } ≡ p = (λ i. record { name = record { key = (sym mine ∙ ap (λ (m : Name). m.key) name) i; ts = (ap (λ (m : Name). m.ts) name) i }; value = set' i }) in
           ap Some point ∙ sym (shown-here key p value set' mine')
@@ -347,7 +359,7 @@ module _ (key : Key) (points : List Point) (place : ℕ) (encoded value : List �
       by (Some p) is at' set' =
           let spelled : encoded ≡ encoded_name p.name = cc in
           let name : n ≡ p.name = (let e : Ok n ≡ Ok p.name = read ∙ ap name_of spelled ∙ name_of-encoded_name p.name (in_range-at points place p encodable is) in cc) in
-          let version : IsVersion p = each-at IsVersion points (place_before points place p is).0 p all (place_before points place p is).1 in
+          let version : IsVersion p = All-at IsVersion points (place_before points place p is).0 p all (place_before points place p is).1 in
           let bytes : Some value ≡ Some (value_bytes (spelled_body p.name.ts value) no_time p.name.ts) =
           set' ∙ version.spelled ∙ ap (λ (v : Option (List ℕ)). Some (value_bytes (spelled_body p.name.ts (bytes_in v)) no_time p.name.ts)) (sym set') in
           ap (λ (m : Name). is_ok (value_of m.ts value)) name ∙ spelled-whole p.name.ts value cc

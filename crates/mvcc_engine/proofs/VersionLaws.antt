@@ -5,15 +5,17 @@ use Rattle.std.specs.List.Sorted.{IsStrictlySortedBy}
 use Rattle.std.specs.Option.{option_map}
 use Rattle.std.specs.declared.cmp.Ordering.{Ordering}
 use Rattle.std.specs.declared.cmp.Ordering.TheVariants.{Less, Equal, Greater}
-use Rattle.std.specs.Ordering.{is_lt, is_le, is_eq, ordering_reverse, match_ordering}
+use Rattle.std.specs.Ordering.{is_lt, is_eq, ordering_reverse, match_ordering}
 use Rattle.std.proofs.Common.{zero, suc, refl, sym, ap, ◌∙◌, subst, append-nil, take-append-drop}
 use Rattle.std.proofs.lemmas.Map.Text.{is_eq-slice_cmp}
 use Rattle.mvcc_key.specs.Lists.{put_in_order, in_order, first}
-use Rattle.mvcc_key.specs.Order.{Timestamp, Key, time_cmp, key_cmp, newer_first, is_before, is_up_to, is_same_key, is_no_time}
+use Rattle.mvcc_key.specs.Order.{Timestamp, Key, time_cmp, key_cmp, newer_first, is_before, is_same_key, is_no_time}
 use Rattle.mvcc_key.specs.History.{Version, version_cmp}
 use Rattle.mvcc_key.specs.Items.{Item, items, version_item, item_cmp, newest, newest_at}
-use Rattle.mvcc_key.proofs.OrderLaws.{not_up_to-before, time_cmp-total, key_cmp-total, key_cmp-IsAntisymmetric}
+use Rattle.mvcc_key.proofs.OrderLaws.{not_up_to-before, key_cmp-total, key_cmp-IsAntisymmetric}
 use Rattle.mvcc_key.proofs.SortedLaws.{IsBelowAll, in_order-same}
+use Rattle.mvcc_key.proofs.SameKeyLaws.{below_differs, same_keys-tie}
+use Rattle.mvcc_key.proofs.TimeLaws.{before_less, not_before}
 use Rattle.mvcc_engine.specs.views.Places.{AreVersions, IsPlace, is_ahead, is_of_lower_key, version_at, history_of}
 
 -- an element among others
@@ -27,20 +29,6 @@ module _ {X : Type 0} (cmp : X → X → Ordering) where
 -- the test of a key by the order of keys
 pub is_same_key-is_eq : (a b : Key) → is_same_key a b ≡ is_eq (key_cmp a b)
 is_same_key-is_eq a b = sym (is_eq-slice_cmp a b)
-
--- a key whose test passes ties
-pub tied : (a b : Key) → is_same_key a b ≡ true → key_cmp a b ≡ Equal
-tied a b same = by (key_cmp a b) (sym (is_same_key-is_eq a b) ∙ same)
-  where
-    by : (o : Ordering) → is_eq o ≡ true → o ≡ Equal
-    by Less h = cc
-    by Equal h = refl
-    by Greater h = cc
-
--- a key above another is above what the other ties with
-tied_too : (a b key : Key) → is_same_key a key ≡ true → is_same_key b key ≡ true → key_cmp a b ≡ Equal
-tied_too a b key first second =
-    key_cmp-total.congr a key b (tied a key first) ∙ key_cmp-total.antisymm key b ∙ ap ordering_reverse (tied b key second)
 
 -- of one key the newer version is first
 pub version_cmp-of_one : (v w : Version) → is_no_time v.ts ≡ false → is_no_time w.ts ≡ false → key_cmp v.key w.key ≡ Equal
@@ -62,7 +50,7 @@ below_items key v (w ∷ ws) same timed rest below =
     by : (b : Bool) → is_same_key w.key key ≡ b → IsBelowAll item_cmp (version_item v) (map version_item (filter (λ x. is_same_key x.key key) ws))
         → IsBelowAll item_cmp (version_item v) (map version_item (cond b (w ∷ filter (λ x. is_same_key x.key key) ws) (filter (λ x. is_same_key x.key key) ws)))
     by false is more = more
-    by true is more = (newer_of_one v w timed rest.0 (tied_too v.key w.key key same is) below.0, more)
+    by true is more = (newer_of_one v w timed rest.0 (same_keys-tie v.key w.key key same is) below.0, more)
 
 -- the versions of a key, as its items, are in order
 items_in_order : (key : Key) (vs : List Version) → AllByRecursion (λ w. is_no_time w.ts ≡ false) vs → IsStrictlySortedBy version_cmp vs
@@ -105,29 +93,13 @@ none-behind key v (w ∷ ws) higher below =
     by Equal is = absurd (not_less (key_cmp v.key w.key) refl is)
     by Greater is = rw is refl
 
--- a key above another or below it is not the same
-pub not_same-Less : (a b : Key) → key_cmp a b ≡ Less → is_same_key a b ≡ false
-not_same-Less a b is = is_same_key-is_eq a b ∙ ap is_eq is
-
+-- a key above another is not the same
 pub not_same-Greater : (a b : Key) → key_cmp a b ≡ Greater → is_same_key a b ≡ false
 not_same-Greater a b is = is_same_key-is_eq a b ∙ ap is_eq is
 
+-- a key that ties with another is the same
 pub same-Equal : (a b : Key) → key_cmp a b ≡ Equal → is_same_key a b ≡ true
 same-Equal a b is = is_same_key-is_eq a b ∙ ap is_eq is
-
-less_of : (o : Ordering) → is_lt o ≡ true → o ≡ Less
-less_of Less h = refl
-less_of Equal h = cc
-less_of Greater h = cc
-
--- of two timestamps one is up to the other where that is not before it
-pub up_to-not_before : (s t : Timestamp) → is_before s t ≡ false → is_up_to t s ≡ true
-up_to-not_before s t h = by (time_cmp s t) (time_cmp t s) (time_cmp-total.antisymm t s) h
-  where
-    by : (o p : Ordering) → p ≡ ordering_reverse o → is_lt o ≡ false → is_le p ≡ true
-    by Less p e h = cc
-    by Equal p e h = rw e refl
-    by Greater p e h = rw e refl
 
 -- the items of the key among these versions
 abbrev pub items_among : Key → List Version → List Item
@@ -143,7 +115,7 @@ module _ (key : Key) (ts : Timestamp) where
       by : (o : Ordering) → key_cmp v.key key ≡ o → match_ordering o true (is_before ts v.ts) false ≡ true
           → newest_at ts (items_among key (vs ++ ys)) ≡ newest_at ts (items_among key ys)
           → newest_at ts (items_among key (v ∷ (vs ++ ys))) ≡ newest_at ts (items_among key ys)
-      by Less is first rest = rw (not_same-Less v.key key is) rest
+      by Less is first rest = rw (below_differs v.key key is) rest
       by Equal is first rest = rw (same-Equal v.key key is, not_up_to-before ts v.ts first) rest
       by Greater is first rest = cc
 
@@ -157,7 +129,7 @@ module _ (key : Key) (ts : Timestamp) where
       by : (o : Ordering) → key_cmp v.key key ≡ o → match_ordering o true (is_before ts v.ts) false ≡ false
           → newest_at ts (items_among key (v ∷ vs)) ≡ option_map version_item (version_at key (v ∷ vs))
       by Less is first = cc
-      by Equal is first = rw (same-Equal v.key key is, up_to-not_before ts v.ts first) refl
+      by Equal is first = rw (same-Equal v.key key is, not_before ts v.ts first) refl
       by Greater is first = rw (not_same-Greater v.key key is, none-behind key v vs is sorted.0) refl
 
 -- what stands before a key is not of it
@@ -168,7 +140,7 @@ newest-lower key (v ∷ vs) ys lower = by (key_cmp v.key key) refl lower.0 (newe
   where
     by : (o : Ordering) → key_cmp v.key key ≡ o → is_lt o ≡ true → newest (items_among key (vs ++ ys)) ≡ newest (items_among key ys)
         → newest (items_among key (v ∷ (vs ++ ys))) ≡ newest (items_among key ys)
-    by Less is first rest = rw (not_same-Less v.key key is) rest
+    by Less is first rest = rw (below_differs v.key key is) rest
     by Equal is first rest = cc
     by Greater is first rest = cc
 
@@ -235,7 +207,7 @@ first_before new (v ∷ vs) timed rest behind newer = by (key_cmp v.key new.key)
         let at : version_at new.key (v ∷ vs) ≡ Some v = rw (same-Equal v.key new.key is) refl in
         let older_at : is_before v.ts new.ts ≡ true = subst (λ o. IfSome o (λ w. is_before w.ts new.ts ≡ true)) at older in
         let back : key_cmp new.key v.key ≡ Equal = key_cmp-total.antisymm new.key v.key ∙ ap ordering_reverse is in
-        let less : time_cmp v.ts new.ts ≡ Less = less_of (time_cmp v.ts new.ts) older_at in
+        let less : time_cmp v.ts new.ts ≡ Less = before_less v.ts new.ts older_at in
         let order : version_cmp new v ≡ Less = version_cmp-of_one new v timed rest.0 back ∙ less in
         rw order refl
     by Greater is not_lower older =

@@ -10,11 +10,12 @@ ghost use Rattle.std.specs.Prelude.{◌≡◌, ◌≤◌, ◌<◌, ◌^◌, Bool
 ghost use Rattle.std.specs.Option.{option_map};
 ghost use Rattle.mvcc_key.specs.views.Seen.{time_of};
 ghost use Rattle.mvcc_value.specs.views.Seen.{found_of, plain_body, seen_body};
+ghost use Rattle.write_rule.specs.views.Seen.{Tells};
 ghost use Rattle.lsm_store.specs.Parts.{layout};
 ghost use Rattle.lsm_store.specs.views.Seen.{seen_shape};
 ghost use Rattle.mvcc_engine.specs.views.Outside.{write};
 ghost use Rattle.mvcc_engine.specs.Step.{Put, Delete, Age, Flush, Compact, Get, Reply, Finished, WasThere, Got, change, first_state, statistics, step};
-ghost use Rattle.mvcc_engine.specs.views.Seen.{Answers, AnswersAge, AnswersUnlessFull, Tells, refusal_of};
+ghost use Rattle.mvcc_engine.specs.views.Seen.{Answers, AnswersAge, AnswersUnlessFull, refusal_of};
 ghost use Rattle.mvcc_engine.specs.views.Plan.{IsPlanned};
 
 use crate::change::change_of;

@@ -5,8 +5,9 @@ ghost use Rattle.mvcc_key.specs.Order.{is_no_time};
 ghost use Rattle.mvcc_key.specs.Refusal.{TooOld};
 ghost use Rattle.mvcc_key.specs.views.Seen.{time_of};
 ghost use Rattle.mvcc_value.specs.views.Seen.{seen_body};
+ghost use Rattle.write_rule.specs.views.Seen.{Tells};
 ghost use Rattle.mvcc_engine.specs.views.Places.{in_the_way};
-ghost use Rattle.mvcc_engine.specs.views.Seen.{Tells, refusal_of};
+ghost use Rattle.mvcc_engine.specs.views.Seen.{refusal_of};
 ghost use Rattle.mvcc_engine.specs.views.Outside.{checked, data_length};
 
 use crate::refusal::Refusal;

@@ -75,6 +75,16 @@ fn answer_to(engine: &mut Engine, call: Call) -> Answer {
     }
 }
 
+/// Whether each call in turn gets its answer.
+fn are_answered(engine: &mut Engine, calls: &[(Call, Answer)]) -> bool {
+    for (call, answer) in calls {
+        if answer_to(engine, *call) != *answer {
+            return false;
+        }
+    }
+    true
+}
+
 /// Keys and their bytes, values and their bytes, live keys and live bytes, the age of garbage, and the moment.
 fn numbers(stats: &Stats) -> [u64; 8] {
     [
@@ -160,9 +170,7 @@ fn statistics_are_a_recount(rt: HostRuntime) -> Result<(), Fail> {
     ];
     for (count_max, calls, statistics) in cases {
         let mut engine = bounded(rt.alloc(), count_max);
-        for (call, answer) in calls {
-            assert!(rt; answer_to(&mut engine, *call) == *answer);
-        }
+        assert!(rt; are_answered(&mut engine, calls));
         assert!(rt; numbers(&engine.stats()) == statistics);
     }
     Ok(())

@@ -1,7 +1,7 @@
 //! A committed version as it is stored.
 ghost use Rattle.std.specs.Prelude.{◌≡◌, ◌∷◌, [], true, Ok, Some, IfOk, is_ok};
 ghost use Rattle.std.specs.Option.{option_map};
-ghost use Rattle.mvcc_key.specs.Batches.{IsBatch, HasPointsAlone};
+ghost use Rattle.mvcc_key.specs.Batches.{IsBatch};
 ghost use Rattle.mvcc_key.specs.Encoded.{IsName, name_in};
 ghost use Rattle.mvcc_key.specs.Order.{Key, Name};
 ghost use Rattle.mvcc_key.specs.views.Seen.{time_of};
@@ -77,7 +77,7 @@ impl StoredVersion {
         requires { IsShort self }
         ensures points { IfOk result (λ b. points_of b.points ≡ stored_point self ∷ []) }
         ensures batch { IfOk result IsBatch }
-        ensures alone { IfOk result HasPointsAlone }
+        ensures alone { IfOk result (λ b. b.ranges ≡ []) }
         ensures version { stored_version (stored_point self) ≡ self }
     {
         let mut points = Elements::new(alloc);

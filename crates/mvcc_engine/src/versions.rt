@@ -46,15 +46,13 @@ pub struct Versions {
 }
 
 impl Model for Versions {
-    ghost use Rattle.std.specs.List.{AllByRecursion};
-    ghost use Rattle.lsm_store.specs.Shown.{shown};
-    ghost use Rattle.mvcc_engine.specs.views.Stored.{Held, held_in, IsVersion};
+    ghost use Rattle.mvcc_engine.specs.views.Stored.{Held, held_in, HoldsVersions};
 
     ghost Value = { Held };
 
     ghost view = { λ v. held_in v.store };
 
-    ghost invariant = { λ v. AllByRecursion IsVersion (shown v.store) };
+    ghost invariant = { λ v. HoldsVersions v.store };
 }
 
 impl Versions {

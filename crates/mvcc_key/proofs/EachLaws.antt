@@ -1,12 +1,13 @@
 -- What holds of each element of a list, and of those that pass a test.
-use Rattle.std.proofs.Common.{◌≡◌, false, List, [], ◌∷◌, ◌++◌, refl, subst, Bool, true, cond, Some, None}
+use Rattle.std.proofs.Common.{◌≡◌, false, List, [], ◌∷◌, ◌++◌, refl, subst, Bool, true, cond, Some, None, ℕ, zero, suc, sym, ap, ◌∙◌}
 use Rattle.std.proofs.lemmas.List.Elements.{filter_passes, recursion_from_All}
-use Rattle.std.specs.Prelude.{map, ⊤, ◌||◌, filter, find, IfSome}
+use Rattle.std.specs.Prelude.{map, ⊤, ◌||◌, filter, find, IfSome, is_some, slice_get}
 use Rattle.std.specs.List.{AllByRecursion, flat_map, list_any}
 use Rattle.std.specs.declared.cmp.Ordering.{Ordering}
 use Rattle.std.specs.declared.cmp.Ordering.TheVariants.{Less, Equal, Greater}
 use Rattle.std.specs.Ordering.{match_ordering}
 use Rattle.mvcc_key.specs.Lists.{put_in_order, in_order, is_empty, first}
+use Rattle.mvcc_key.proofs.FindLaws.{find-any}
 
 module _ {X : Type 0} (cmp : X → X → Ordering) (P : X → Type 0) where
   -- what holds of all holds of them in order
@@ -57,6 +58,17 @@ All-map P f (x ∷ xs) a = (a.0, All-map P f xs a.1)
 pub All-unmap : {X Y : Type 0} (P : Y → Type 0) (f : X → Y) (xs : List X) → AllByRecursion P (map f xs) → AllByRecursion (λ x. P (f x)) xs
 All-unmap P f [] a = tt
 All-unmap P f (x ∷ xs) a = (a.0, All-unmap P f xs a.1)
+
+-- what holds of all holds of the one at a place
+pub All-at : {X : Type 0} (P : X → Type 0) (xs : List X) (i : ℕ) (x : X) → AllByRecursion P xs → slice_get xs i ≡ Some x → P x
+All-at P [] i x a is = absurd cc
+All-at P (y ∷ ys) zero x a is = (let same : y ≡ x = cc in rw (← same) a.0)
+All-at P (y ∷ ys) (suc i) x a is = All-at P ys i x a.1 is
+
+-- what holds at each place holds of all
+pub All-from_places : {X : Type 0} (P : X → Type 0) (xs : List X) → ((i : ℕ) (x : X) → slice_get xs i ≡ Some x → P x) → AllByRecursion P xs
+All-from_places P [] h = tt
+All-from_places P (x ∷ xs) h = (h 0 x refl, All-from_places P xs (λ i y is. h (suc i) y is))
 
 -- what follows of each
 pub All-weaker : {X : Type 0} (P Q : X → Type 0) (xs : List X) → ((x : X) → P x → Q x) → AllByRecursion P xs → AllByRecursion Q xs
@@ -139,16 +151,6 @@ module _ {X : Type 0} (test : X → Bool) where
       by true e h rest = absurd cc
       by false e h rest = (e, rest h)
 
-  -- where none is found, each fails
-  pub none_found : (xs : List X) → find test xs ≡ None → AllByRecursion (λ x. test x ≡ false) xs
-  none_found [] h = tt
-  none_found (x ∷ xs) h = by (test x) refl h (none_found xs)
-    where
-      by : (b : Bool) → test x ≡ b → cond b (Some x) (find test xs) ≡ None → (find test xs ≡ None → AllByRecursion (λ y. test y ≡ false) xs)
-          → (test x ≡ false) × AllByRecursion (λ y. test y ≡ false) xs
-      by true e h rest = absurd cc
-      by false e h rest = (e, rest h)
-
   -- where not any passes, each fails
   pub not_any : (xs : List X) → list_any test xs ≡ false → AllByRecursion (λ x. test x ≡ false) xs
   not_any [] h = tt
@@ -158,6 +160,10 @@ module _ {X : Type 0} (test : X → Bool) where
           → (test x ≡ false) × AllByRecursion (λ y. test y ≡ false) xs
       by true e h rest = absurd cc
       by false e h rest = (e, rest h)
+
+  -- where none is found, each fails
+  pub none_found : (xs : List X) → find test xs ≡ None → AllByRecursion (λ x. test x ≡ false) xs
+  none_found xs h = not_any xs (sym (find-any test xs) ∙ ap is_some h)
 
 -- ---- the first element
 

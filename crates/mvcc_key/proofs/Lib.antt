@@ -14,10 +14,10 @@ pub mod UniqueLaws
 pub mod PieceLaws
 pub mod SpanCutLaws
 pub mod CutKeptLaws
-pub mod RejoinLaws
 pub mod StackChangeLaws
 pub mod ChangeLaws
 pub mod TombstonesOfLaws
+pub mod FragmentPartsLaws
 pub mod MiddleLaws
 pub mod ApartLaws
 pub mod NamedLaws

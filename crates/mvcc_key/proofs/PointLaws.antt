@@ -3,24 +3,25 @@ use Rattle.std.proofs.Common.{◌≡◌, ℕ, zero, suc, ◌+◌, ◌-◌, ◌<�
 use Rattle.std.specs.Prelude.{slice_get, Some, None, Result, Ok, find, not}
 use Rattle.std.specs.declared.option.Option.{Option}
 use Rattle.std.specs.Option.{option_map}
-use Rattle.std.specs.declared.cmp.Ordering.{Ordering}
-use Rattle.std.specs.declared.cmp.Ordering.TheVariants.{Less, Equal, Greater}
-use Rattle.std.specs.Ordering.{is_lt}
+use Rattle.std.specs.declared.cmp.Ordering.TheVariants.{Less, Equal}
+use Rattle.std.specs.Ordering.{is_lt, is_eq}
 use Rattle.std.specs.List.{AllByRecursion}
 use Rattle.std.specs.List.Sorted.{IsStrictlySortedBy}
 use Rattle.std.proofs.lemmas.Option.{slice_get_within, slice_get_cases}
 use Rattle.std.proofs.lemmas.List.{length-append}
 use Rattle.std.proofs.lemmas.List.Sums.{sum_by-cons}
 use Rattle.std.proofs.lemmas.Bool.{ne_eqb, cases_order}
-use Rattle.mvcc_key.specs.Order.{Name, name_cmp}
+use Rattle.mvcc_key.specs.Order.{Name, name_cmp, is_same_name}
 use Rattle.mvcc_key.specs.KeyFormat.{encoded_name, KeyFault, name_of}
 use Rattle.mvcc_key.specs.Encoded.{known_name, name_in, IsName}
 use Rattle.mvcc_key.specs.Points.{Point, point_cmp, IsRisingBy, IsRising, AreEncodable, point_at, is_below_name, count_below}
 use Rattle.mvcc_key.specs.Lists.{in_order}
 use Rattle.mvcc_key.proofs.OrderLaws.{name_cmp-total}
 use Rattle.mvcc_key.proofs.SortedLaws.{in_order-sorted}
-use Rattle.std.specs.Cmp.{IsTotalOrder}
-use Rattle.std.proofs.lemmas.Cmp.{on_total}
+use Rattle.mvcc_key.proofs.TimeLaws.{less_from}
+use Rattle.mvcc_key.proofs.FindLaws.{find-in_order}
+use Rattle.std.specs.Cmp.{IsTotalOrder, Equal-is}
+use Rattle.std.proofs.lemmas.Cmp.{on_total, tied_back}
 use Rattle.mvcc_key.proofs.KeyFormatLaws.{name_of-encoded_name}
 
 -- ---- how many points are below a name
@@ -79,11 +80,6 @@ rising_rest name x xs h i j a b lt p q = h (suc i) (suc j) a b (omega arith) p q
 pub rising-first : {X : Type 0} (name : X → Name) (x : X) (xs : List X) → IsRisingBy name (x ∷ xs) → (i : ℕ) (a : X) → slice_get xs i ≡ Some a → name_cmp (name x) (name a) ≡ Less
 rising-first name x xs h i a p = h 0 (suc i) x a (omega arith) refl p
 
-less_of : (o : Ordering) → is_lt o ≡ true → o ≡ Less
-less_of Less h = refl
-less_of Equal h = absurd cc
-less_of Greater h = absurd cc
-
 -- what is above a point that is not below the name is not below it either
 above_too : (name : Name) (p q : Point) → name_cmp p.name q.name ≡ Less → is_below_name name p ≡ false → is_below_name name q ≡ false
 above_too name p q lt not_below = by (is_below_name name q) refl
@@ -91,7 +87,7 @@ above_too name p q lt not_below = by (is_below_name name q) refl
     by : (b : Bool) → is_below_name name q ≡ b → is_below_name name q ≡ false
     by false h = h
     by true h =
-        let less : name_cmp p.name name ≡ Less = name_cmp-total.trans p.name q.name name lt (less_of (name_cmp q.name name) h) in
+        let less : name_cmp p.name name ≡ Less = name_cmp-total.trans p.name q.name name lt (less_from (name_cmp q.name name) h) in
         let yes : is_below_name name p ≡ true = ap is_lt less in
         absurd cc
 
@@ -203,7 +199,7 @@ IsNarrowed-below name points low high middle p rising n lt at is_below = record 
         elim (cases_order i middle) [
           | inl same ↦ (let one : Some q ≡ Some p = sym is ∙ ap (slice_get points) same ∙ at in let point : p ≡ q = cc in rw (← point) is_below)
           | inr (inl before) ↦
-              ap is_lt (name_cmp-total.trans q.name p.name name (rising i middle q p before is at) (less_of (name_cmp p.name name) is_below))
+              ap is_lt (name_cmp-total.trans q.name p.name name (rising i middle q p before is at) (less_from (name_cmp p.name name) is_below))
           | inr (inr behind) ↦ absurd (omega arith)
         ]
 
@@ -327,3 +323,17 @@ point_cmp-total = on_total (λ p. p.name) name_cmp-total
 -- points that are put in order rise
 pub rising-in_order : (points : List Point) → IsRising (in_order point_cmp points)
 rising-in_order points = rising-sorted (in_order point_cmp points) (in_order-sorted point_cmp-total points)
+
+-- ---- the point of a name
+
+-- of points in order the first of a name is the first of that name among all
+pub named-in_order : (name : Name) (points : List Point) → find (λ p. is_same_name p.name name) (in_order point_cmp points) ≡ find (λ p. is_same_name p.name name) points
+named-in_order name = find-in_order point_cmp (λ p. is_same_name p.name name) alike one
+  where
+    alike : (p q : Point) → point_cmp p q ≡ Equal → is_same_name p.name name ≡ is_same_name q.name name
+    alike p q tie = ap is_eq (name_cmp-total.congr p.name q.name name tie)
+
+    one : (p q : Point) → is_same_name p.name name ≡ true → is_same_name q.name name ≡ true → point_cmp p q ≡ Equal
+    one p q h k =
+        name_cmp-total.congr p.name name q.name ((Equal-is (name_cmp p.name name)).0 h)
+        ∙ tied_back name_cmp-total q.name name ((Equal-is (name_cmp q.name name)).0 k)

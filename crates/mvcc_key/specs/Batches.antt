@@ -36,10 +36,6 @@ pub record IsBatch (batch : Batch) : Type 0 where
   pub points : AreEntries batch.points
   pub ranges : All IsStorableRange batch.ranges
 
--- it has no range operation
-abbrev pub HasPointsAlone : Batch → Type 0
-HasPointsAlone batch = batch.ranges ≡ []
-
 -- its key has 1 to 4,096 bytes, its timestamp is in range, and its value has at most 16,777,216 bytes
 pub record IsStoredPoint (p : Point) : Type 0 where
   pub some : 1 ≤ length p.name.key

@@ -13,6 +13,8 @@ pub mod Refusal
 pub mod Fragments
 pub mod Canonical
 pub mod Pieces
+pub mod SameFragments
+pub mod RangeOperations
 pub mod Encoded
 pub mod Clock
 pub mod Points

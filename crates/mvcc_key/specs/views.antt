@@ -5,4 +5,5 @@ pub mod AbbreviatedKey
 pub mod Seen
 pub mod SeenKey
 pub mod SeenPoint
+pub mod SeenRange
 pub mod Building

@@ -1,15 +1,12 @@
 //! Batches whose conditions are tested as they are made.
 ghost use Rattle.std.specs.Prelude.{◌≡◌, ◌↔◌, IsTrue, IfOk, OnErr, if◌then◌else◌};
-ghost use Rattle.std.specs.declared.cmp.Ordering.TheVariants.{Less};
-ghost use Rattle.mvcc_key.specs.Order.{name_cmp};
-ghost use Rattle.mvcc_key.specs.Encoded.{name_in, IsName};
+ghost use Rattle.mvcc_key.specs.Encoded.{IsName};
 ghost use Rattle.mvcc_key.specs.Batches.{IsStorableRange, IsBatch};
 ghost use Rattle.mvcc_key.specs.views.SeenPoint.{AreNamed, IsAboveLast};
 ghost use Rattle.mvcc_key.specs.views.Building.{empty_batch, IsNextPoint, with_point, with_range};
 
 use crate::{Batch, Elements, OutOfMemory, PointOp, RangeOp, cmp_encoded};
 use std::alloc::Global;
-use std::cmp::Ordering;
 use std::marker::Model;
 
 /// A batch that is built of operations in their order, each tested as it comes. Contracts see it as the batch so far.
@@ -87,19 +84,7 @@ fn is_above_last(held: &[PointOp], key: &[u8]) -> bool
     ensures { IsTrue result ↔ IsAboveLast held.now key.now }
 {
     match held.last() {
-        Some(last) => is_below(last.key.as_slice(), key),
+        Some(last) => cmp_encoded(last.key.as_slice(), key).is_lt(),
         None => true,
-    }
-}
-
-/// Whether a name is below another.
-fn is_below(a: &[u8], b: &[u8]) -> bool
-    requires left { IsName a.now }
-    requires right { IsName b.now }
-    ensures { IsTrue result ↔ (name_cmp (name_in a.now) (name_in b.now) ≡ Less) }
-{
-    match cmp_encoded(a, b) {
-        Ordering::Less => true,
-        Ordering::Equal | Ordering::Greater => false,
     }
 }

@@ -12,7 +12,8 @@ use Rattle.mvcc_key.proofs.ChangeLaws.{with_tombstone-decided, take_out-decided}
 use Rattle.mvcc_key.proofs.TombstonesOfLaws.{fragments-tombstones_of, fragments-again}
 use Rattle.range_key.proofs.ChangedLaws.{fragments-none}
 use Rattle.range_key.specs.views.Changes.{AddsTombstone, TakesOut, without_times}
-use Rattle.range_key.specs.RangeOps.{AreOverSpans, RangeOp, with_operation, with_operations, tombstones_after, fragments_with, fragments_after, setting, removing, set_tombstone, operations_of, FragmentsTellOperations, OperationsGiveFragments}
+use Rattle.mvcc_key.specs.RangeOperations.{RangeOp}
+use Rattle.range_key.specs.RangeOps.{AreOverSpans, with_operation, with_operations, tombstones_after, fragments_with, fragments_after, setting, removing, set_tombstone, operations_of, FragmentsTellOperations, OperationsGiveFragments}
 
 -- tombstones with the same fragments have the same fragments after an operation
 pub with_operation-decided : (op : RangeOp) (ts us : List RangeTombstone) → is_below op.start op.end ≡ true → fragments ts ≡ fragments us

@@ -1,7 +1,7 @@
 -- Lists of fragments cut to a span, part by part.
 use Rattle.std.specs.Prelude.{◌≡◌, ℕ, ◌+◌, ◌<◌, List, [], ◌∷◌, ◌++◌, length, take, drop}
 use Rattle.std.proofs.Common.{sym, ◌∙◌, ap, subst, append-nil, arith, suc, zero, get_or}
-use Rattle.std.proofs.lemmas.List.{take_more, take-append-drop}
+use Rattle.std.proofs.lemmas.List.{take-append-drop}
 use Rattle.std.proofs.lemmas.Grind.{flat_map-append}
 use Rattle.mvcc_key.specs.Order.{Key}
 use Rattle.mvcc_key.specs.Fragments.{Fragment, cut_to, part_within}
@@ -35,15 +35,6 @@ cut_to-overlapping start end n m fs c before behind =
   where
     pieces : ArePieces (drop m (drop n fs))
     pieces = canonical-pieces (drop m (drop n fs)) (canonical-drop m (drop n fs) (canonical-drop n fs c))
-
--- one fragment more adds its part
-pub cut_to-more : (start end : Key) (i : ℕ) (fs : List Fragment) (f : Fragment) → i < length fs → f ≡ get_or fs i f
-    → cut_to start end (take (i + 1) fs) ≡ cut_to start end (take i fs) ++ part_within start end f
-cut_to-more start end i fs f within is =
-    ap (cut_to start end) (take_more fs i f within)
-    ∙ flat_map-append (part_within start end) (take i fs) (get_or fs i f ∷ [])
-    ∙ ap (λ us. cut_to start end (take i fs) ++ us) (append-nil (part_within start end (get_or fs i f)))
-    ∙ ap (λ g. cut_to start end (take i fs) ++ part_within start end g) (sym is)
 
 -- what a list has below a key is the part of its first, where that ends at or above the key
 pub cut_below-first : (key : Key) (fs : List Fragment) (f : Fragment) → IsCanonical fs → EndsFrom key fs → 0 < length fs → f ≡ get_or fs 0 f

@@ -9,7 +9,7 @@ use Rattle.mvcc_key.specs.Order.{is_same_key}
 use Rattle.mvcc_key.specs.Fragments.{Fragment, is_same_stack}
 use Rattle.mvcc_key.proofs.FragmentLaws.{same_key, same-stack}
 use Rattle.mvcc_key.proofs.StackLaws.{both_true, same_key_is, same-stack_is}
-use Rattle.range_key.specs.views.Changes.{is_same_fragment, are_same_fragments}
+use Rattle.mvcc_key.specs.SameFragments.{is_same_fragment, are_same_fragments}
 use Rattle.range_key.proofs.ChangedLaws.{three-ranges}
 
 -- fragments are the same where they are equal

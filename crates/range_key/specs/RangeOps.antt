@@ -1,17 +1,11 @@
 -- Range operations, and what they make of tombstones and of their fragments.
-use Rattle.std.specs.Prelude.{◌≡◌, ℕ, Bool, true, List, [], Option, Some, None, is_some, fold, map, if◌then◌else◌}
+use Rattle.std.specs.Prelude.{◌≡◌, Bool, true, List, [], Some, None, is_some, fold, map, if◌then◌else◌}
 use Rattle.std.specs.List.{AllPass, AllByRecursion}
 use Rattle.mvcc_key.specs.Order.{Timestamp, is_same_time, Key, is_below}
 use Rattle.mvcc_key.specs.History.{RangeTombstone, with_tombstone}
 use Rattle.mvcc_key.specs.Fragments.{Fragment, fragments, take_out, tombstones_of}
 use Rattle.mvcc_key.specs.Canonical.{IsCanonical}
-
--- sets a tombstone over the span, where it has a value, and else takes its very timestamp out of the span
-pub record RangeOp : Type 0 where
-  pub start : Key
-  pub end : Key
-  pub ts : Timestamp
-  pub value : Option (List ℕ)
+use Rattle.mvcc_key.specs.RangeOperations.{RangeOp}
 
 -- the tombstones after one operation more
 abbrev pub with_operation : List RangeTombstone → RangeOp → List RangeTombstone

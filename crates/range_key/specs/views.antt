@@ -3,7 +3,6 @@ pub mod Places
 pub mod Joining
 pub mod Taken
 pub mod Changes
-pub mod SeenOps
 pub mod Planned
 pub mod Stages
 pub mod Staged

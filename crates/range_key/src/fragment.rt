@@ -8,7 +8,7 @@ ghost use Rattle.mvcc_key.specs.Lists.{put_in_order};
 ghost use Rattle.mvcc_key.specs.Order.{is_same_key, newer_first};
 ghost use Rattle.mvcc_key.specs.Pieces.{piece};
 ghost use Rattle.mvcc_key.specs.views.Seen.{time_of};
-ghost use Rattle.range_key.specs.views.Changes.{is_same_fragment};
+ghost use Rattle.mvcc_key.specs.SameFragments.{is_same_fragment};
 ghost use Rattle.range_key.specs.views.Taken.{is_taken};
 
 use crate::Stack;

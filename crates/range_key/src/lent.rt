@@ -5,10 +5,14 @@ ghost use Rattle.mvcc_key.specs.Canonical.{IsCanonical};
 ghost use Rattle.mvcc_key.specs.Fragments.{cut_to};
 ghost use Rattle.mvcc_key.specs.views.Looks.{bits};
 ghost use Rattle.mvcc_key.specs.Order.{is_within};
+ghost use Rattle.mvcc_key.specs.views.SeenRange.{range_ops_of};
+ghost use Rattle.range_key.specs.RangeOps.{operations_of};
 
+use crate::cut::cut;
+use crate::ops::ops_of;
 use crate::place::fragment_at;
 use crate::{Fragment, FragmentList};
-use mvcc_key::{Looks, OutOfMemory};
+use mvcc_key::{Looks, OutOfMemory, RangeOp};
 use std::alloc::Global;
 use std::marker::Model;
 use std::sync::ledger::Ledger;
@@ -71,8 +75,9 @@ impl<'a> FragmentsRef<'a> {
         self.held
     }
 
-    /// The fragment that contains the key, as [`FragmentList::at`] finds it.
-    pub fn at<L: Ledger>(&self, key: &[u8], looks: &mut Looks<L>) -> Option<&Fragment>
+    /// The fragment that contains the key, as [`FragmentList::at`] finds it. It is lent by the owner of the list, as
+    /// [`as_slice`](FragmentsRef::as_slice) is.
+    pub fn at<L: Ledger>(&self, key: &[u8], looks: &mut Looks<L>) -> Option<&'a Fragment>
         ensures found { option_copied result ≡ find (λ f. is_within f.start f.end key.now) self.now }
         ensures later { looks.old ≤ looks.new }
         ensures looks { looks.new ≤ looks.old + bits (length self.now) + 1 }
@@ -80,11 +85,19 @@ impl<'a> FragmentsRef<'a> {
         fragment_at(self.held, key, looks)
     }
 
+    /// The operations that set what the fragments stand for, as [`FragmentList::to_ops`] gives them.
+    pub fn to_ops(&self) -> Result<Vec<RangeOp>, OutOfMemory>
+        ensures { IfOk result (λ ops. range_ops_of ops.items ≡ operations_of self.now) }
+    {
+        ops_of(self.alloc, self.held)
+    }
+
     /// The fragments cut to the span, as a list of its own.
     pub fn truncate(&self, start: &[u8], end: &[u8]) -> Result<FragmentList, OutOfMemory>
         ensures value { IfOk result (λ l. l ≡ cut_to start.now end.now self.now) }
         ensures canonical { IfOk result IsCanonical }
     {
-        FragmentList::cut_of(self.alloc, self.held, start, end)
+        let held = cut(self.alloc, self.held, start, end)?;
+        Ok(FragmentList::of(held))
     }
 }

@@ -10,11 +10,9 @@ ghost use Rattle.mvcc_key.specs.views.Seen.{time_of};
 ghost use Rattle.range_key.specs.RangeOps.{fragments_with, operations_of, removing, setting, tombstones_after};
 ghost use Rattle.range_key.specs.views.Changes.{AddsTombstone, PutsOver, TakesFrom, TakesOut, without_times};
 ghost use Rattle.range_key.specs.views.Planned.{IsWithin, with_pieces};
-ghost use Rattle.range_key.specs.views.SeenOps.{range_op_of, range_ops_of};
+ghost use Rattle.mvcc_key.specs.views.SeenRange.{range_op_of, range_ops_of};
 ghost use Rattle.range_key.specs.views.Taken.{is_taken};
 
-use crate::cut::cut;
-use crate::ops::ops_of;
 use crate::place::fragment_at;
 use crate::planned::{Change, plan_add, plan_taking};
 use crate::taken::Taken;
@@ -105,14 +103,14 @@ impl FragmentList {
         ensures value { IfOk result (λ l. l ≡ cut_to start.now end.now self.now) }
         ensures canonical { IfOk result IsCanonical }
     {
-        FragmentList::cut_of(self.alloc(), self.as_slice(), start, end)
+        self.lend().truncate(start, end)
     }
 
     /// The same fragments, lent. This takes no memory.
     pub fn lend(&self) -> FragmentsRef<'_>
         ensures { result ≡ self.now }
     {
-        FragmentsRef::over(self.alloc(), self.as_slice())
+        FragmentsRef::over(*self.held.allocator(), self.as_slice())
     }
 
     /// Lays a tombstone over the span: its timestamp is over each key there, once. Only the fragments that overlap the span or
@@ -127,7 +125,7 @@ impl FragmentList {
         ensures canonical { IsCanonical self.new }
         ensures err { OnErr result (self.new ≡ self.old) }
     {
-        let change = plan_add(self.alloc(), self.as_slice(), start, end, ts)?;
+        let change = plan_add(*self.held.allocator(), self.as_slice(), start, end, ts)?;
         self.carry_out(change)
     }
 
@@ -196,7 +194,7 @@ impl FragmentList {
     pub fn to_ops(&self) -> Result<Vec<RangeOp>, OutOfMemory>
         ensures { IfOk result (λ ops. range_ops_of ops.items ≡ operations_of self.now) }
     {
-        ops_of(self.alloc(), self.as_slice())
+        self.lend().to_ops()
     }
 
     /// Takes timestamps out of the span.
@@ -210,7 +208,7 @@ impl FragmentList {
         ensures canonical { IsCanonical self.new }
         ensures err { OnErr result (self.new ≡ self.old) }
     {
-        let change = plan_taking(self.alloc(), self.as_slice(), start, end, taken)?;
+        let change = plan_taking(*self.held.allocator(), self.as_slice(), start, end, taken)?;
         self.carry_out(change)
     }
 
@@ -242,25 +240,5 @@ impl FragmentList {
         ensures canonical { IsCanonical self }
     {
         self.held
-    }
-
-    /// The allocator.
-    fn alloc(&self) -> Global {
-        *self.held.allocator()
-    }
-
-    /// Fragments in order, cut to the span.
-    pub(crate) fn cut_of(
-        alloc: Global,
-        fragments: &[Fragment],
-        start: &[u8],
-        end: &[u8],
-    ) -> Result<FragmentList, OutOfMemory>
-        requires { IsCanonical fragments.now }
-        ensures value { IfOk result (λ l. l ≡ cut_to start.now end.now fragments.now) }
-        ensures canonical { IfOk result IsCanonical }
-    {
-        let held = cut(alloc, fragments, start, end)?;
-        Ok(FragmentList { held })
     }
 }

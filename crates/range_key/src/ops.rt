@@ -1,7 +1,7 @@
 //! Fragments as range operations.
 ghost use Rattle.std.specs.Prelude.{◌≡◌, ◌++◌, [], ◌∷◌, IfOk, OnOk};
 ghost use Rattle.range_key.specs.RangeOps.{operations_of};
-ghost use Rattle.range_key.specs.views.SeenOps.{range_ops_of};
+ghost use Rattle.mvcc_key.specs.views.SeenRange.{range_ops_of};
 
 use crate::Fragment;
 use mvcc_key::{Bytes, Key, OutOfMemory, RangeOp};

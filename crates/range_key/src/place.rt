@@ -11,22 +11,13 @@ use crate::Fragment;
 use mvcc_key::Looks;
 use std::sync::ledger::Ledger;
 
-/// One look: whether a fragment ends at the key or before it.
-fn ends_by<L: Ledger>(fragment: &Fragment, key: &[u8], looks: &mut Looks<L>) -> bool
-    ensures answer { result ≡ is_at_or_below fragment.now.end key.now }
+/// One look: whether a fragment's bound is the key or before it.
+fn is_by<L: Ledger>(bound: &[u8], key: &[u8], looks: &mut Looks<L>) -> bool
+    ensures answer { result ≡ is_at_or_below bound.now key.now }
     ensures cost { looks.new ≡ looks.old + 1 }
 {
     looks.tick();
-    fragment.end_bytes().cmp(key).is_le()
-}
-
-/// One look: whether a fragment starts at the key or before it.
-fn starts_by<L: Ledger>(fragment: &Fragment, key: &[u8], looks: &mut Looks<L>) -> bool
-    ensures answer { result ≡ is_at_or_below fragment.now.start key.now }
-    ensures cost { looks.new ≡ looks.old + 1 }
-{
-    looks.tick();
-    fragment.start_bytes().cmp(key).is_le()
+    bound.cmp(key).is_le()
 }
 
 /// The place of the first fragment that ends above the key. Each comparison is a look.
@@ -42,7 +33,7 @@ fn first_ending_above<L: Ledger>(fragments: &[Fragment], key: &[u8], looks: &mut
     let mut high = fragments.len();
     while low < high {
         let middle = low + (high - low) / 2;
-        if ends_by(&fragments[middle], key, looks) {
+        if is_by(fragments[middle].end_bytes(), key, looks) {
             low = middle + 1;
         } else {
             high = middle;
@@ -64,7 +55,7 @@ pub(crate) fn fragment_at<'a, L: Ledger>(
 {
     let place = first_ending_above(fragments, key, looks);
     let fragment = fragments.get(place)?;
-    if starts_by(fragment, key, looks) {
+    if is_by(fragment.start_bytes(), key, looks) {
         Some(fragment)
     } else {
         None

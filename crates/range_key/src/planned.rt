@@ -3,7 +3,8 @@ ghost use Rattle.std.specs.Prelude.{◌≡◌, ◌+◌, ◌-◌, ◌≤◌, ◌+
 ghost use Rattle.mvcc_key.specs.Canonical.{IsCanonical};
 ghost use Rattle.mvcc_key.specs.Order.{is_below};
 ghost use Rattle.mvcc_key.specs.views.Seen.{time_of};
-ghost use Rattle.range_key.specs.views.Changes.{AddsTombstone, TakesOut, are_same_fragments};
+ghost use Rattle.mvcc_key.specs.SameFragments.{are_same_fragments};
+ghost use Rattle.range_key.specs.views.Changes.{AddsTombstone, TakesOut};
 ghost use Rattle.range_key.specs.views.Planned.{IsWithin, with_pieces};
 ghost use Rattle.range_key.specs.views.Taken.{is_taken};
 

@@ -4,9 +4,9 @@ ghost use Rattle.mvcc_key.specs.Canonical.{IsCanonical};
 ghost use Rattle.mvcc_key.specs.Order.{is_below};
 ghost use Rattle.mvcc_key.specs.views.Seen.{time_of};
 ghost use Rattle.range_key.specs.RangeOps.{fragments_with, removing, setting};
-ghost use Rattle.range_key.specs.views.Changes.{are_same_fragments};
+ghost use Rattle.mvcc_key.specs.SameFragments.{are_same_fragments};
 ghost use Rattle.range_key.specs.views.Planned.{IsWithin, with_pieces};
-ghost use Rattle.range_key.specs.views.SeenOps.{range_op_of};
+ghost use Rattle.mvcc_key.specs.views.SeenRange.{range_op_of};
 ghost use Rattle.range_key.specs.views.Stages.{settled};
 
 use crate::fragment::copied;
@@ -69,7 +69,7 @@ impl StagedFragments {
     pub fn lend(&self) -> FragmentsRef<'_>
         ensures { result ≡ self.now.fragments }
     {
-        FragmentsRef::over(self.alloc(), self.held.as_slice())
+        FragmentsRef::over(*self.held.allocator(), self.held.as_slice())
     }
 
     /// Stages one operation more: one that sets is [`stage_add`](StagedFragments::stage_add), and one that removes is
@@ -96,7 +96,8 @@ impl StagedFragments {
     {
         match self.take_next()? {
             None => {
-                let change = plan_add(self.alloc(), self.held.as_slice(), start, end, ts)?;
+                let alloc = *self.held.allocator();
+                let change = plan_add(alloc, self.held.as_slice(), start, end, ts)?;
                 self.keep(change)
             }
             Some(mut list) => {
@@ -122,7 +123,8 @@ impl StagedFragments {
         match self.take_next()? {
             None => {
                 let taken = Taken::One(ts);
-                let change = plan_taking(self.alloc(), self.held.as_slice(), start, end, taken)?;
+                let alloc = *self.held.allocator();
+                let change = plan_taking(alloc, self.held.as_slice(), start, end, taken)?;
                 self.keep(change)
             }
             Some(mut list) => {
@@ -201,11 +203,6 @@ impl StagedFragments {
         ensures next { self.new.next ≡ list }
     {
         self.next = Next::Other(list);
-    }
-
-    /// The allocator.
-    fn alloc(&self) -> Global {
-        *self.held.allocator()
     }
 }
 

@@ -10,6 +10,7 @@ use Rattle.mvcc_key.specs.Refusal.{Refusal, TooOld, Uncertain}
 use Rattle.mvcc_key.proofs.EachLaws.{All-filter, All-weaker, All-every}
 use Rattle.mvcc_key.proofs.ItemLaws.{below_first}
 use Rattle.mvcc_key.proofs.FindLaws.{find-holds, find-none, last-holds}
+use Rattle.mvcc_key.proofs.OrderLaws.{not_up_to-before}
 use Rattle.mvcc_key.proofs.TimeLaws.{not_up_to, up_to_along, up_to_not_before}
 use Rattle.mvcc_value.specs.Encoding.{plain_bytes, value_bytes, value_of, IsEncodable}
 use Rattle.mvcc_value.proofs.PlainLaws.{HasPlain, value_bytes-plain}
@@ -48,14 +49,6 @@ no_row key (Int number) ts stored none = absurd cc
 lent_of : (o : Option Item) (l : LentItem) → Some l ≡ option_map lent_item o → (i : Item) × (o ≡ Some i) × (l ≡ lent_item i)
 lent_of None l h = absurd cc
 lent_of (Some i) l h = (i, refl, cc)
-
-none_lent : (o : Option Item) → None ≡ option_map lent_item o → o ≡ None
-none_lent None h = refl
-none_lent (Some i) h = absurd cc
-
--- no item is no data
-pub no_item : (r : ReadRequest) (k : KeyHistory) → IsByItem r k → None ≡ option_map lent_item (newest_at (read_time r.who) k.items) → decision r k ≡ Ok None
-no_item r k by none = by.answer ∙ ap (item_row k.key) (none_lent (newest_at (read_time r.who) k.items) none)
 
 -- an item without plain bytes is no data
 pub empty_item : (r : ReadRequest) (k : KeyHistory) (l : LentItem) (plain : List ℕ) → IsByItem r k → Some l ≡ option_map lent_item (newest_at (read_time r.who) k.items)
@@ -102,7 +95,6 @@ entry_holds P sequence ranges es e all is =
 
 -- an own entry without plain bytes is no data
 pub empty_entry : (r : ReadRequest) (k : KeyHistory) (own : IsOwn r k.intent) (plain : List ℕ) → plain ≡ plain_bytes (own.entry).value → length plain ≡ 0 → decision r k ≡ Ok None
-unfolding decision
 empty_entry r k own plain is none =
     let nothing : plain_bytes (own.entry).value ≡ [] = nil_from_length _ (ap length (sym is) ∙ none) in
     own.answer (by_items k.key r k.items) ∙ ap Ok (no_row (own.head).key (own.entry).value (own.head).ts (stored_entry own.head own.entry) nothing)
@@ -110,7 +102,6 @@ empty_entry r k own plain is none =
 -- and one with plain bytes is the row
 pub found_entry : (r : ReadRequest) (k : KeyHistory) (own : IsOwn r k.intent) (sequence : ℕ) (ranges : List SeqRange) (plain : List ℕ) (ts : Timestamp) → IsKeyHistory k
     → entry_at sequence ranges (own.head).entries ≡ Some own.entry → plain ≡ plain_bytes (own.entry).value → 0 < length plain → ts ≡ (own.head).ts → IsFound r k plain ts
-unfolding decision
 found_entry r k own sequence ranges plain ts h entry is long ts_is =
     let i : Intent = own.head in
     let e : Entry Body = own.entry in
@@ -129,14 +120,6 @@ found_entry r k own sequence ranges plain ts h entry is long ts_is =
 
 -- ---- items that refuse
 
--- what is before a timestamp is not up to from it
-not_above : (a b : Timestamp) → is_before a b ≡ true → is_up_to b a ≡ false
-not_above a b before = by (is_up_to b a) refl
-  where
-    by : (c : Bool) → is_up_to b a ≡ c → is_up_to b a ≡ false
-    by false e = e
-    by true e = absurd (let no = up_to_not_before b a e in cc)
-
 -- a read that does not fail on more recent items refuses none
 pub none_fails : (r : ReadRequest) (items : List Item) → (r.options).fail_more_recent ≡ false → find (is_more_recent r) items ≡ None
 none_fails r items fails = find-none (is_more_recent r) items (All-every (λ i. is_more_recent r i ≡ false) items (λ i. rw fails refl))
@@ -151,7 +134,7 @@ none_recent r k h below =
     each i before = by (r.options).fail_more_recent
       where
         by : (b : Bool) → (b && is_up_to (read_time r.who) i.ts) ≡ false
-        by true = not_above i.ts (read_time r.who) before
+        by true = not_up_to-before i.ts (read_time r.who) before
         by false = refl
 
     first_below : (o : Option Item) → IfSome o (λ i. is_up_to (read_time r.who) i.ts ≡ false) → IfSome o (λ i. is_before i.ts (read_time r.who) ≡ true)
@@ -216,7 +199,6 @@ own_is_seen r k own l t value h who lent found =
 -- an item that refuses
 pub too_old_is : (r : ReadRequest) (k : KeyHistory) (listed : Bool) (ts : Timestamp) → IsPassed r k.intent listed → Some ts ≡ option_map (λ (i : Item). i.ts) (find (is_more_recent r) k.items)
     → decision r k ≡ Err (TooOld ts)
-unfolding decision
 too_old_is r k listed ts passed some = passed.past (by_items k.key r k.items) ∙ by (find (is_more_recent r) k.items) some
   where
     by : (o : Option Item) → Some ts ≡ option_map (λ (i : Item). i.ts) o → past_more_recent o (past_uncertain (find (is_unsure r) k.items) (item_row k.key (newest_at (read_time r.who) k.items))) ≡ Err (TooOld ts)
@@ -230,7 +212,6 @@ none_of f (Some i) h = absurd cc
 
 pub uncertain_is : (r : ReadRequest) (k : KeyHistory) (listed : Bool) (ts local : Timestamp) → IsPassed r k.intent listed → None ≡ option_map (λ (i : Item). i.ts) (find (is_more_recent r) k.items)
     → Some (ts, local) ≡ option_map item_times (find (is_unsure r) k.items) → decision r k ≡ Err (Uncertain ts local)
-unfolding decision
 uncertain_is r k listed ts local passed none some =
     passed.past (by_items k.key r k.items)
     ∙ ap (λ o. past_more_recent o (past_uncertain (find (is_unsure r) k.items) (item_row k.key (newest_at (read_time r.who) k.items)))) (none_of (λ i. i.ts) (find (is_more_recent r) k.items) none)
@@ -245,7 +226,6 @@ uncertain_is r k listed ts local passed none some =
 -- so the newest item answers
 pub by_item_is : (r : ReadRequest) (k : KeyHistory) (listed : Bool) → IsPassed r k.intent listed → None ≡ option_map (λ (i : Item). i.ts) (find (is_more_recent r) k.items)
     → None ≡ option_map item_times (find (is_unsure r) k.items) → IsByItem r k
-unfolding decision
 by_item_is r k listed passed recent unsure = record {
   no_entry = passed.no_entry;
   answer =
@@ -256,7 +236,6 @@ by_item_is r k listed passed recent unsure = record {
 
 -- an intent that refuses
 pub refused_is : (r : ReadRequest) (k : KeyHistory) (why : Refusal) → IsRefused r k.intent why → decision r k ≡ Err why
-unfolding decision
 refused_is r k why refused = refused.answer (by_items k.key r k.items)
 
 -- ---- calls that leave what is told

@@ -85,7 +85,6 @@ told_any r None others old unsure h = h
 told_any r (Some i) others old unsure h = told_intent r i (own_txn i.id r.who) others old unsure h
 
 told : (r : ReadRequest) (k : KeyHistory) → Told (decision r k) (meets_conflict r k.intent) (meets_later_epoch r k.intent) (meets_more_recent r k) (meets_uncertain r k)
-unfolding decision
 told r k = told_any r k.intent (by_items k.key r k.items) (list_any (is_more_recent r) k.items) (not (list_any (is_more_recent r) k.items) && list_any (is_unsure r) k.items) (told_by_items r k)
 
 -- what the code answers is the refusal that it is

@@ -1,4 +1,4 @@
 pub mod CauseLaws
 pub mod IntentLaws
 pub mod AnswerLaws
-pub mod AlikeLaws
+pub mod ReadAlikeLaws

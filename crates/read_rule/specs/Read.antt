@@ -107,7 +107,7 @@ past_any_intent r None others = others
 past_any_intent r (Some i) others = past_intent r i (own_txn i.id r.who) others
 
 -- the answer of a read, by what a history has of the key
-unfoldable pub decision : ReadRequest → KeyHistory → Decision
+abbrev pub decision : ReadRequest → KeyHistory → Decision
 decision r k = past_any_intent r k.intent (by_items k.key r k.items)
 
 -- the answer of a read of the key

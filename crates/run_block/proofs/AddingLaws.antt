@@ -3,7 +3,7 @@ use Rattle.std.proofs.Common.{◌≡◌, ℕ, ◌+◌, ◌^◌, ◌<◌, ◌≤�
 use Rattle.std.specs.Prelude.{All, Option}
 use Rattle.std.specs.List.{flat_map}
 use Rattle.std.proofs.lemmas.Grind.{flat_map-append}
-use Rattle.std.proofs.lemmas.List.{append-nil, length-append, length-map, take_all, take_more, get_or-map}
+use Rattle.std.proofs.lemmas.List.{map-append, append-nil, length-append, length-map, take_all, take_more, get_or-map}
 use Rattle.std.proofs.lemmas.List.Concat.{flat_map-cons}
 use Rattle.std.proofs.lemmas.List.Elements.{All-push}
 use Rattle.mvcc_key.specs.Encoded.{name_in}
@@ -12,13 +12,13 @@ use Rattle.mvcc_key.specs.views.SeenPoint.{point_of, points_of}
 use Rattle.mvcc_key.specs.declared.batch.PointOp.{PointOp}
 use Rattle.mvcc_key.proofs.KeyFormatLaws.{length-encoded_name_le}
 use Rattle.mvcc_key.specs.Batches.{IsStorable}
-use Rattle.run_block.specs.RunFormat.{RangeOp, point_bytes, range_bytes}
+use Rattle.mvcc_key.specs.RangeOperations.{RangeOp}
+use Rattle.run_block.specs.RunFormat.{point_bytes, range_bytes}
 use Rattle.run_block.specs.views.Places.{point_in, range_in, points_in, ranges_in, IsIndex}
 use Rattle.run_block.specs.views.Writing.{point_with, IsBehind}
 use Rattle.run_block.specs.declared.index.Index.{Index}
 use Rattle.run_block.specs.declared.place.PointPlace.{PointPlace}
 use Rattle.run_block.specs.declared.place.RangePlace.{RangePlace}
-use Rattle.run_block.proofs.IndexLaws.{points_in-push, ranges_in-push}
 use Rattle.run_block.proofs.WritingLaws.{points_in-more, ranges_in-more, index-more}
 
 -- ---- one entry
@@ -35,21 +35,22 @@ points-next bytes next more index is h = ap (λ (v : List ℕ). points_in v inde
 pub ranges-next : (bytes next more : List ℕ) (index : Index) → next ≡ bytes ++ more → IsIndex bytes index → ranges_in next index.ranges.items ≡ ranges_in bytes index.ranges.items
 ranges-next bytes next more index is h = ap (λ (v : List ℕ). ranges_in v index.ranges.items) is ∙ ranges_in-more bytes more index.ranges.items h.ranges
 
+-- one element more, where those before it stay
+map-grown : {X Y : Type 0} (f g : X → Y) (old new : List X) (x : X) (y : Y) → new ≡ old ++ x ∷ [] → map f old ≡ map g old → f x ≡ y → map f new ≡ map g old ++ y ∷ []
+map-grown {Y = Y} f g old new x y grown same here =
+    ap (map f) grown ∙ map-append f old (x ∷ []) ∙ ap (λ (ys : List Y). ys ++ f x ∷ []) same ∙ ap (λ (z : Y). map g old ++ z ∷ []) here
+
 -- one point more
 pub points-added : (bytes next more : List ℕ) (old new : Index) (place : PointPlace) (p : Point) → next ≡ bytes ++ more → IsIndex bytes old
     → new.points.items ≡ old.points.items ++ place ∷ [] → point_in next place ≡ p → points_in next new.points.items ≡ points_in bytes old.points.items ++ p ∷ []
 points-added bytes next more old new place p is h grown here =
-    ap (points_in next) grown ∙ points_in-push next old.points.items place
-    ∙ ap (λ (ps : List Point). ps ++ point_in next place ∷ []) (points-next bytes next more old is h)
-    ∙ ap (λ (q : Point). points_in bytes old.points.items ++ q ∷ []) here
+    map-grown (point_in next) (point_in bytes) old.points.items new.points.items place p grown (points-next bytes next more old is h) here
 
 -- one range operation more
 pub ranges-added : (bytes next more : List ℕ) (old new : Index) (place : RangePlace) (r : RangeOp) → next ≡ bytes ++ more → IsIndex bytes old
     → new.ranges.items ≡ old.ranges.items ++ place ∷ [] → range_in next place ≡ r → ranges_in next new.ranges.items ≡ ranges_in bytes old.ranges.items ++ r ∷ []
 ranges-added bytes next more old new place r is h grown here =
-    ap (ranges_in next) grown ∙ ranges_in-push next old.ranges.items place
-    ∙ ap (λ (rs : List RangeOp). rs ++ range_in next place ∷ []) (ranges-next bytes next more old is h)
-    ∙ ap (λ (q : RangeOp). ranges_in bytes old.ranges.items ++ q ∷ []) here
+    map-grown (range_in next) (range_in bytes) old.ranges.items new.ranges.items place r grown (ranges-next bytes next more old is h) here
 
 -- a place behind more bytes is behind fewer
 behind-fewer : (n m : ℕ) (p : PointPlace) → n ≤ m → IsBehind m p → IsBehind n p

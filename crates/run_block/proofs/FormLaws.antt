@@ -4,8 +4,7 @@ use Rattle.std.specs.Prelude.{Option, Some, None, All, ⊤}
 use Rattle.std.specs.Option.{ForSome}
 use Rattle.std.specs.List.{AllByRecursion}
 use Rattle.std.specs.List.Sorted.{IsStrictlySortedBy}
-use Rattle.std.specs.declared.cmp.Ordering.{Ordering}
-use Rattle.std.specs.declared.cmp.Ordering.TheVariants.{Less, Equal, Greater}
+use Rattle.std.specs.declared.cmp.Ordering.TheVariants.{Less}
 use Rattle.std.specs.Ordering.{is_lt}
 use Rattle.std.proofs.lemmas.List.{nil_from_length}
 use Rattle.std.proofs.lemmas.List.Elements.{All-from_recursion, All-head, All-tail}
@@ -14,7 +13,9 @@ use Rattle.mvcc_key.specs.Limits.{max_stored_length}
 use Rattle.mvcc_key.specs.Points.{Point, point_cmp, IsRising}
 use Rattle.mvcc_key.proofs.OrderLaws.{name_cmp-total}
 use Rattle.mvcc_key.proofs.PointLaws.{rising_rest, rising-sorted}
-use Rattle.run_block.specs.RunFormat.{RangeOp, Run, is_next}
+use Rattle.mvcc_key.specs.RangeOperations.{RangeOp}
+use Rattle.mvcc_key.proofs.TimeLaws.{less_from}
+use Rattle.run_block.specs.RunFormat.{Run, is_next}
 use Rattle.run_block.specs.Runs.{IsStoredRange, IsRun, BytesAreRead, ReadBytesAreOfRun}
 use Rattle.mvcc_key.specs.Batches.{IsStoredPoint}
 use Rattle.run_block.proofs.RunLaws.{IsPointValue, AreRunPoints, IsRangeValue, AreRunRanges, IsReadable, IsSpelled-run_of, run_of-run_bytes}
@@ -76,11 +77,6 @@ empty_value : (value : Option (List ℕ)) → IsRangeValue value → ForSome val
 empty_value None h v e = absurd cc
 empty_value (Some w) h v e = (let same : w ≡ v = cc in rw (← same) (nil_from_length w h))
 
-less_of : (o : Ordering) → is_lt o ≡ true → o ≡ Less
-less_of Less h = refl
-less_of Equal h = absurd cc
-less_of Greater h = absurd cc
-
 each_above : (m n : Name) (ps : List Point) → name_cmp m n ≡ Less → AllByRecursion (λ q. name_cmp n q.name ≡ Less) ps → AllByRecursion (λ q. name_cmp m q.name ≡ Less) ps
 each_above m n [] lt h = tt
 each_above m n (p ∷ ps) lt h = (name_cmp-total.trans m n p.name lt h.0, each_above m n ps lt h.1)
@@ -89,7 +85,7 @@ all_above : (n : Name) (ps : List Point) → AreRunPoints (Some n) ps → AllByR
 all_above n [] h = tt
 all_above n (p ∷ ps) h =
     let first = h.0 in
-    let less : name_cmp n p.name ≡ Less = less_of (name_cmp n p.name) first.next in
+    let less : name_cmp n p.name ≡ Less = less_from (name_cmp n p.name) first.next in
     (less, each_above n p.name ps less (all_above p.name ps h.1))
 
 sorted_points : (before : Option Name) (ps : List Point) → AreRunPoints before ps → IsStrictlySortedBy point_cmp ps

@@ -8,7 +8,7 @@ use Rattle.std.proofs.lemmas.List.Sums.{fold-append}
 use Rattle.mvcc_key.specs.Order.{Timestamp}
 use Rattle.mvcc_key.specs.Points.{Point}
 use Rattle.run_block.specs.TimeSpan.{point_time, times_of, widened, span_of}
-use Rattle.run_block.specs.views.Places.{point_in, range_in, points_in, ranges_in, IsPlaced, run_in, span_seen, IsIndex}
+use Rattle.run_block.specs.views.Places.{point_in, points_in, ranges_in, IsPlaced, run_in, span_seen, IsIndex}
 use Rattle.run_block.specs.declared.index.Index.{Index}
 use Rattle.run_block.specs.declared.place.PointPlace.{PointPlace}
 use Rattle.run_block.specs.declared.place.RangePlace.{RangePlace}
@@ -38,14 +38,6 @@ times_of-point ps p =
     ∙ ap (λ (xs : List Timestamp). filter_map point_time ps ++ xs) (sym (append-nil (filter_map point_time (p ∷ []))) ∙ filter_map-one point_time p [] ∙ append-nil (option_to_list (point_time p)))
     ∙ ap (λ (xs : List Timestamp). xs ++ option_to_list (point_time p)) (sym (append-nil (filter_map point_time ps)))
 
--- the run with one point more
-pub points_in-push : (bytes : List ℕ) (places : List PointPlace) (p : PointPlace) → points_in bytes (places ++ p ∷ []) ≡ points_in bytes places ++ point_in bytes p ∷ []
-points_in-push bytes places p = map-append (point_in bytes) places (p ∷ [])
-
--- the run with one range operation more
-pub ranges_in-push : (bytes : List ℕ) (places : List RangePlace) (r : RangePlace) → ranges_in bytes (places ++ r ∷ []) ≡ ranges_in bytes places ++ range_in bytes r ∷ []
-ranges_in-push bytes places r = map-append (range_in bytes) places (r ∷ [])
-
 -- an index with one point more
 pub index-point : (bytes : List ℕ) (old new : Index) (p : PointPlace) → IsIndex bytes old → IsPlaced bytes p → old.ranges.items ≡ []
     → new.ranges.items ≡ old.ranges.items → new.points.items ≡ old.points.items ++ p ∷ []
@@ -56,7 +48,7 @@ index-point bytes old new p is placed none same more span =
     ap (λ (rs : List RangePlace). times_of (record { points = points_in bytes old.points.items; ranges = ranges_in bytes rs })) none in
     let now : times_of (run_in bytes new) ≡ times_of (record { points = points_in bytes old.points.items ++ point_in bytes p ∷ []; ranges = [] }) =
     ap (λ (rs : List RangePlace). times_of (record { points = points_in bytes new.points.items; ranges = ranges_in bytes rs })) empty
-    ∙ ap (λ (ps : List Point). times_of (record { points = ps; ranges = [] })) (ap (points_in bytes) more ∙ points_in-push bytes old.points.items p) in
+    ∙ ap (λ (ps : List Point). times_of (record { points = ps; ranges = [] })) (ap (points_in bytes) more ∙ map-append (point_in bytes) old.points.items (p ∷ [])) in
     let times : times_of (run_in bytes new) ≡ times_of (run_in bytes old) ++ option_to_list (point_time (point_in bytes p)) =
     now ∙ times_of-point (points_in bytes old.points.items) (point_in bytes p) ∙ ap (λ (ts : List Timestamp). ts ++ option_to_list (point_time (point_in bytes p))) (sym was) in
     record {

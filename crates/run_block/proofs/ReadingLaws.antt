@@ -7,7 +7,8 @@ use Rattle.mvcc_key.specs.Steps.{◌>>=◌}
 use Rattle.mvcc_key.specs.Order.{Name}
 use Rattle.mvcc_key.specs.Points.{Point}
 use Rattle.mvcc_key.proofs.ByteLaws.{step}
-use Rattle.run_block.specs.RunFormat.{RangeOp, RunFault, Placed, Rest, point_at, points_at, range_at, ranges_at}
+use Rattle.mvcc_key.specs.RangeOperations.{RangeOp}
+use Rattle.run_block.specs.RunFormat.{RunFault, Placed, Rest, point_at, points_at, range_at, ranges_at}
 use Rattle.run_block.specs.views.Places.{point_in, range_in, points_in, ranges_in, IsPlaced, IsRangePlaced, IsIndex}
 use Rattle.run_block.specs.views.Reading.{rest_at, rest_of, IsKeyPiece, name_before, items_of, ArePointsAt, AreRangesAt}
 use Rattle.run_block.specs.declared.index.Index.{Index}

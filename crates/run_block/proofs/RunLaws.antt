@@ -15,7 +15,8 @@ use Rattle.mvcc_key.specs.KeyFormat.{KeyFault, encoded_name, name_of}
 use Rattle.mvcc_key.specs.FileKind.{FileKind}
 use Rattle.mvcc_key.proofs.ByteLaws.{IsBytes, IsBytes-drop, IsBytes-take, IsWide, wide32, wide64, bind_ok, unless_ok, unless_passes, step, ok_is, none_left, Takes, Takes-then}
 use Rattle.mvcc_key.proofs.KeyFormatLaws.{in_range, IsEncoded, IsEncoded-name_of, name_of-encoded_name, length-encoded_name_le}
-use Rattle.run_block.specs.RunFormat.{RangeOp, Run, with_length, kind_byte, value_part, point_bytes, range_bytes, magic, run_bytes, RunFault, Placed, Rest, after, fault_at, field, number, counted, kind_at, stored_name, name_at, is_next, value_at, point_at, points_at, set_or_removed, is_range_op, range_at, ranges_at, PlacedRun, head_at, read_run, without_places, run_from, run_of}
+use Rattle.mvcc_key.specs.RangeOperations.{RangeOp}
+use Rattle.run_block.specs.RunFormat.{Run, with_length, kind_byte, value_part, point_bytes, range_bytes, magic, run_bytes, RunFault, Placed, Rest, after, fault_at, field, number, counted, kind_at, stored_name, name_at, is_next, value_at, point_at, points_at, set_or_removed, is_range_op, range_at, ranges_at, PlacedRun, head_at, read_run, without_places, run_from, run_of}
 
 -- ---- what is read was written: fields
 

@@ -5,7 +5,8 @@ use Rattle.mvcc_key.specs.Steps.{◌>>=◌, unless_fault}
 use Rattle.mvcc_key.specs.FileKind.{FileKind}
 use Rattle.mvcc_key.specs.Points.{Point}
 use Rattle.mvcc_key.proofs.ByteLaws.{step, unless_passes}
-use Rattle.run_block.specs.RunFormat.{RangeOp, RunFault, Placed, Rest, fault_at, points_at, ranges_at, head_at, PlacedRun, read_run, run_from, run_of}
+use Rattle.mvcc_key.specs.RangeOperations.{RangeOp}
+use Rattle.run_block.specs.RunFormat.{RunFault, Placed, Rest, fault_at, points_at, ranges_at, head_at, PlacedRun, read_run, run_from, run_of}
 use Rattle.run_block.specs.views.Reading.{rest_at, rest_of, ArePointsAt, AreRangesAt}
 use Rattle.run_block.specs.views.Seen.{fault_of, IsFaultOf}
 use Rattle.run_block.specs.declared.fault.ParseFault.{ParseFault}

@@ -1,5 +1,5 @@
 -- Bytes that are written behind others.
-use Rattle.std.proofs.Common.{◌≡◌, ℕ, ◌-◌, ◌≤◌, List, [], ◌∷◌, ◌++◌, length, take, drop, refl, sym, ap, subst, ◌∙◌, arith}
+use Rattle.std.proofs.Common.{map, ◌≡◌, ℕ, ◌-◌, ◌≤◌, List, [], ◌∷◌, ◌++◌, length, take, drop, refl, sym, ap, subst, ◌∙◌, arith}
 use Rattle.std.specs.Prelude.{Option, Some, None, All}
 use Rattle.std.specs.Option.{ForSome, option_map}
 use Rattle.std.proofs.lemmas.List.{take-append-le, drop-append-le, length-append, length-drop}
@@ -54,19 +54,21 @@ range_in-more bytes more r h =
     let end = piece_in-more bytes more r.end h.end in
     λ i. record { start = start i; end = end i; ts = (range_in bytes r).ts; value = (range_in bytes r).value }
 
-pub points_in-more : (bytes more : List ℕ) (ps : List PointPlace) → All (IsPlaced bytes) ps → points_in (bytes ++ more) ps ≡ points_in bytes ps
-points_in-more bytes more [] all = refl
-points_in-more bytes more (p ∷ ps) all =
-    let first = point_in-more bytes more p (All-head (IsPlaced bytes) p ps all) in
-    let others = points_in-more bytes more ps (All-tail (IsPlaced bytes) p ps all) in
+-- what is the same at each place is the same at all
+map-alike : {X Y : Type 0} (P : X → Type 0) (f g : X → Y) → ((x : X) → P x → f x ≡ g x) → (xs : List X) → All P xs → map f xs ≡ map g xs
+map-alike P f g same [] all = refl
+map-alike P f g same (x ∷ xs) all =
+    let first = same x (All-head P x xs all) in
+    let others = map-alike P f g same xs (All-tail P x xs all) in
     λ i. first i ∷ others i
 
+-- points are the same with more bytes behind
+pub points_in-more : (bytes more : List ℕ) (ps : List PointPlace) → All (IsPlaced bytes) ps → points_in (bytes ++ more) ps ≡ points_in bytes ps
+points_in-more bytes more = map-alike (IsPlaced bytes) (point_in (bytes ++ more)) (point_in bytes) (point_in-more bytes more)
+
+-- and so are range operations
 pub ranges_in-more : (bytes more : List ℕ) (rs : List RangePlace) → All (IsRangePlaced bytes) rs → ranges_in (bytes ++ more) rs ≡ ranges_in bytes rs
-ranges_in-more bytes more [] all = refl
-ranges_in-more bytes more (r ∷ rs) all =
-    let first = range_in-more bytes more r (All-head (IsRangePlaced bytes) r rs all) in
-    let others = ranges_in-more bytes more rs (All-tail (IsRangePlaced bytes) r rs all) in
-    λ i. first i ∷ others i
+ranges_in-more bytes more = map-alike (IsRangePlaced bytes) (range_in (bytes ++ more)) (range_in bytes) (range_in-more bytes more)
 
 -- the run at the places is the same with more bytes behind
 pub run_in-more : (bytes more : List ℕ) (index : Index) → IsIndex bytes index → run_in (bytes ++ more) index ≡ run_in bytes index

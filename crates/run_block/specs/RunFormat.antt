@@ -4,18 +4,12 @@ use Rattle.std.specs.List.{flat_map}
 use Rattle.std.specs.Int.{Width, w32, w64, byte_len, to_be_bytes, from_be_bytes}
 use Rattle.std.specs.Ordering.{is_lt}
 use Rattle.mvcc_key.specs.Steps.{◌>>=◌, unless_fault}
-use Rattle.mvcc_key.specs.Order.{Timestamp, is_no_time, is_in_range, Key, is_below, Name, name_cmp}
+use Rattle.mvcc_key.specs.Order.{is_no_time, is_in_range, is_below, Name, name_cmp}
 use Rattle.mvcc_key.specs.Points.{Point}
+pub use Rattle.mvcc_key.specs.RangeOperations.{RangeOp}
 use Rattle.mvcc_key.specs.Limits.{max_key_length, max_bound_length, max_stored_length}
 use Rattle.mvcc_key.specs.KeyFormat.{KeyFault, encoded_name, name_of}
 use Rattle.mvcc_key.specs.FileKind.{FileKind}
-
--- sets a tombstone, or removes it; the value of a set one is empty
-pub record RangeOp : Type 0 where
-  pub start : Key
-  pub end : Key
-  pub ts : Timestamp
-  pub value : Option (List ℕ)
 
 -- the points in order, and the range operations in the order in which they are applied
 pub record Run : Type 0 where

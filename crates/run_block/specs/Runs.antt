@@ -5,7 +5,8 @@ use Rattle.mvcc_key.specs.Limits.{max_bound_length}
 use Rattle.mvcc_key.specs.Encoded.{IsBytes}
 use Rattle.mvcc_key.specs.Points.{IsRising}
 use Rattle.mvcc_key.specs.Batches.{IsStoredPoint}
-use Rattle.run_block.specs.RunFormat.{RangeOp, is_range_op, Run, run_bytes, run_of}
+use Rattle.mvcc_key.specs.RangeOperations.{RangeOp}
+use Rattle.run_block.specs.RunFormat.{is_range_op, Run, run_bytes, run_of}
 
 -- its bounds have at most 4,097 bytes, it is a span at a timestamp, and where it sets its value is empty
 pub record IsStoredRange (r : RangeOp) : Type 0 where

@@ -5,7 +5,7 @@ ghost use Rattle.mvcc_key.specs.Encoded.{IsName};
 ghost use Rattle.mvcc_key.specs.Limits.{max_stored_length};
 ghost use Rattle.run_block.specs.RunFormat.{point_bytes, range_bytes};
 ghost use Rattle.mvcc_key.specs.Batches.{IsStorableRange};
-ghost use Rattle.run_block.specs.views.SeenRange.{range_of};
+ghost use Rattle.mvcc_key.specs.views.SeenRange.{range_op_of};
 ghost use Rattle.run_block.specs.views.Places.{IsIndex, points_in, ranges_in};
 ghost use Rattle.run_block.specs.views.Writing.{point_with, IsBehind};
 
@@ -45,11 +45,11 @@ pub(crate) fn add_range(
 ) -> Result<(), OutOfMemory>
     requires entry { IsStorableRange op.now }
     requires index { IsIndex out.old.items index.old }
-    ensures items { OnOk result (out.new.items ≡ out.old.items ++ range_bytes (range_of op.now)) }
+    ensures items { OnOk result (out.new.items ≡ out.old.items ++ range_bytes (range_op_of op.now)) }
     ensures index { OnOk result (IsIndex out.new.items index.new) }
     ensures points { OnOk result (points_in out.new.items index.new.points.items ≡ points_in out.old.items index.old.points.items) }
     ensures ranges { OnOk result (ranges_in out.new.items index.new.ranges.items
-        ≡ ranges_in out.old.items index.old.ranges.items ++ range_of op.now ∷ []) }
+        ≡ ranges_in out.old.items index.old.ranges.items ++ range_op_of op.now ∷ []) }
 {
     let place = put_range(out, op)?;
     index.add_range(place)?;

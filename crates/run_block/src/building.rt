@@ -8,7 +8,7 @@ ghost use Rattle.mvcc_key.specs.Batches.{AreEntries, IsStorableRange, IsStoredPo
 ghost use Rattle.run_block.specs.RunFormat.{value_part, point_bytes, range_bytes, run_bytes, run_of};
 ghost use Rattle.run_block.specs.Runs.{IsRun};
 ghost use Rattle.run_block.specs.views.Places.{IsIndex, points_in, run_in};
-ghost use Rattle.run_block.specs.views.SeenRange.{range_of, ranges_of};
+ghost use Rattle.mvcc_key.specs.views.SeenRange.{range_op_of, range_ops_of};
 ghost use Rattle.run_block.specs.views.Writing.{head_bytes};
 
 use crate::Run;
@@ -23,7 +23,7 @@ use std::alloc::Global;
 pub fn build(alloc: Global, points: &[PointOp], ranges: &[RangeOp]) -> Result<Run, OutOfMemory>
     requires points { AreEntries points.now }
     requires ranges { All IsStorableRange ranges.now }
-    ensures run { IfOk result (λ run. run ≡ record { points = points_of points.now; ranges = ranges_of ranges.now }) }
+    ensures run { IfOk result (λ run. run ≡ record { points = points_of points.now; ranges = range_ops_of ranges.now }) }
     ensures read { IfOk result (λ run. run_of (run_bytes run) ≡ Ok run) }
     ensures whole { IfOk result IsRun }
 {
@@ -50,7 +50,7 @@ pub(crate) fn run_with(
     requires stored { All IsStoredPoint (points_in bytes.items index.points.items) }
     requires rising { IsRising (points_in bytes.items index.points.items) }
     requires ranges { All IsStorableRange ranges.now }
-    ensures run { IfOk result (λ run. run ≡ record { points = points_in bytes.items index.points.items; ranges = ranges_of ranges.now }) }
+    ensures run { IfOk result (λ run. run ≡ record { points = points_in bytes.items index.points.items; ranges = range_ops_of ranges.now }) }
     ensures read { IfOk result (λ run. run_of (run_bytes run) ≡ Ok run) }
     ensures whole { IfOk result IsRun }
 {
@@ -80,10 +80,10 @@ fn put_ranges(out: &mut Vec<u8>, ranges: &[RangeOp], index: &mut Index) -> Resul
     requires entries { All IsStorableRange ranges.now }
     requires index { IsIndex out.old.items index.old }
     requires no_ranges { index.old.ranges.items ≡ [] }
-    ensures items { OnOk result (out.new.items ≡ out.old.items ++ flat_map range_bytes (ranges_of ranges.now)) }
+    ensures items { OnOk result (out.new.items ≡ out.old.items ++ flat_map range_bytes (range_ops_of ranges.now)) }
     ensures index { OnOk result (IsIndex out.new.items index.new) }
     ensures run { OnOk result (run_in out.new.items index.new
-        ≡ record { points = points_in out.old.items index.old.points.items; ranges = ranges_of ranges.now }) }
+        ≡ record { points = points_in out.old.items index.old.points.items; ranges = range_ops_of ranges.now }) }
 {
     for op in ranges {
         add_range(out, index, op)?;
@@ -120,7 +120,7 @@ fn point_len(op: &PointOp) -> Option<usize>
 
 /// How many bytes a range operation has, where that is a length.
 fn range_len(op: &RangeOp) -> Option<usize>
-    ensures { MatchOption result (2 ^ 64 ≤ length (range_bytes (range_of op.now))) (λ n. n ≡ length (range_bytes (range_of op.now))) }
+    ensures { MatchOption result (2 ^ 64 ≤ length (range_bytes (range_op_of op.now))) (λ n. n ≡ length (range_bytes (range_op_of op.now))) }
 {
     (RANGE_HEAD_LEN + op.start.bytes().len()).checked_add(op.end.bytes().len())
 }
@@ -139,7 +139,7 @@ fn points_end(start: usize, points: &[PointOp]) -> Option<usize>
 
 /// How many bytes there are up to the last range operation, where `start` stand before the first.
 pub(crate) fn ranges_end(start: usize, ranges: &[RangeOp]) -> Option<usize>
-    ensures { IfSome result (λ n. n ≡ start + length (flat_map range_bytes (ranges_of ranges.now))) }
+    ensures { IfSome result (λ n. n ≡ start + length (flat_map range_bytes (range_ops_of ranges.now))) }
 {
     let mut end = start;
     for op in ranges {
@@ -151,7 +151,7 @@ pub(crate) fn ranges_end(start: usize, ranges: &[RangeOp]) -> Option<usize>
 /// How many bytes the run has, where that is a length.
 fn encoded_len(points: &[PointOp], ranges: &[RangeOp]) -> Option<usize>
     requires { AreEntries points.now }
-    ensures { IfSome result (λ n. n ≡ 24 + length (flat_map point_bytes (points_of points.now)) + length (flat_map range_bytes (ranges_of ranges.now))) }
+    ensures { IfSome result (λ n. n ≡ 24 + length (flat_map point_bytes (points_of points.now)) + length (flat_map range_bytes (range_ops_of ranges.now))) }
 {
     let end = points_end(HEAD_LEN, points)?;
     ranges_end(end, ranges)

@@ -5,7 +5,7 @@ ghost use Rattle.mvcc_key.specs.Batches.{IsStorableRange, IsStoredPoint};
 ghost use Rattle.run_block.specs.RunFormat.{point_bytes, run_bytes, run_of};
 ghost use Rattle.run_block.specs.Runs.{IsRun};
 ghost use Rattle.run_block.specs.views.Places.{IsIndex, points_in};
-ghost use Rattle.run_block.specs.views.SeenRange.{ranges_of};
+ghost use Rattle.mvcc_key.specs.views.SeenRange.{range_ops_of};
 ghost use Rattle.run_block.specs.views.Writing.{IsBehind};
 
 use crate::Run;
@@ -36,7 +36,7 @@ pub fn collect<C: Cursor>(
     requires start { C.place cursor.old ≡ 0 }
     requires stored { All IsStoredPoint (C.points cursor.old) }
     requires ranges { All IsStorableRange ranges.now }
-    ensures run { IfOk result (λ run. run ≡ record { points = C.points cursor.old; ranges = ranges_of ranges.now }) }
+    ensures run { IfOk result (λ run. run ≡ record { points = C.points cursor.old; ranges = range_ops_of ranges.now }) }
     ensures read { IfOk result (λ run. run_of (run_bytes run) ≡ Ok run) }
     ensures whole { IfOk result IsRun }
 {

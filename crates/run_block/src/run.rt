@@ -68,7 +68,8 @@ impl Run {
 
     /// How many range operations there are.
     pub fn range_len(&self) -> usize
-        ensures { result ≡ length self.now.ranges }
+        ensures value { result ≡ length self.now.ranges }
+        ensures run { IsRun self.now }
     {
         self.ranges.len()
     }

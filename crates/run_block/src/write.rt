@@ -5,7 +5,7 @@ ghost use Rattle.mvcc_key.specs.Encoded.{IsName};
 ghost use Rattle.mvcc_key.specs.Limits.{max_stored_length};
 ghost use Rattle.run_block.specs.RunFormat.{with_length, value_part, point_bytes, range_bytes, kind_byte};
 ghost use Rattle.mvcc_key.specs.Batches.{IsStorableRange};
-ghost use Rattle.run_block.specs.views.SeenRange.{range_of};
+ghost use Rattle.mvcc_key.specs.views.SeenRange.{range_op_of};
 ghost use Rattle.run_block.specs.views.Places.{piece_in, point_in, range_in, IsPlaced, IsRangePlaced};
 ghost use Rattle.run_block.specs.views.Writing.{head_bytes, point_with, IsBehind};
 
@@ -121,9 +121,9 @@ pub(crate) fn put_point(
 /// Puts a range operation, and tells where it lies.
 pub(crate) fn put_range(out: &mut Vec<u8>, op: &RangeOp) -> Result<RangePlace, OutOfMemory>
     requires { IsStorableRange op.now }
-    ensures items { OnOk result (out.new.items ≡ out.old.items ++ range_bytes (range_of op.now)) }
+    ensures items { OnOk result (out.new.items ≡ out.old.items ++ range_bytes (range_op_of op.now)) }
     ensures placed { IfOk result (IsRangePlaced out.new.items) }
-    ensures range { IfOk result (λ r. range_in out.new.items r ≡ range_of op.now) }
+    ensures range { IfOk result (λ r. range_in out.new.items r ≡ range_op_of op.now) }
 {
     put_kind(out, lent(&op.set))?;
     let start = put_counted(out, op.start.bytes())?;

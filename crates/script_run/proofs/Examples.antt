@@ -7,7 +7,7 @@ use Rattle.stat_core.specs.DeadSince.{dead_since}
 use Rattle.stat_core.specs.ComputeStats.{overflowing, key_sums, compute_stats}
 use Rattle.lsm_store.specs.Parts.{after_batch, flushed, compacted}
 use Rattle.intent_meta.specs.StoredPairs.{stored_pairs}
-use Rattle.read_rule.specs.Read.{get, decide, decision, listed}
+use Rattle.read_rule.specs.Read.{get, decide, listed}
 use Rattle.write_rule.specs.Write.{write, value_before}
 use Rattle.mvcc_engine.specs.Step.{statistics, step}
 use Rattle.script_text.proofs.Examples.{on_words}
@@ -15,7 +15,7 @@ use Rattle.script_run.specs.Output.{without_return, carry_out, output_from, line
 
 -- what an example unfolds
 unfoldable pub on_literals : ⊤
-unfolding on_words items fragments varint value_bytes dead_since overflowing key_sums compute_stats stored_pairs after_batch flushed compacted get decide decision listed write value_before statistics step without_return carry_out output_from lines script_output output whole_part
+unfolding on_words items fragments varint value_bytes dead_since overflowing key_sums compute_stats stored_pairs after_batch flushed compacted get decide listed write value_before statistics step without_return carry_out output_from lines script_output output whole_part
 on_literals = tt
 
 empty_script : output (codes "run" ∷ []) [] ≡ []

@@ -7,7 +7,6 @@ use Rattle.lsm_store.specs.Parts.{layout}
 use Rattle.mvcc_key.specs.Refusal.{Refusal}
 use Rattle.mvcc_engine.specs.Step as engine
 use Rattle.mvcc_engine.specs.Step.{State, Reply, Stepped, statistics, step}
-use Rattle.mvcc_key.specs.Order.{Timestamp, Key}
 use Rattle.mvcc_value.specs.views.Seen.{found_of}
 use Rattle.mvcc_value.specs.declared.value.Found.{Found}
 use Rattle.std.specs.Option.{option_map, option_copied}
@@ -15,7 +14,7 @@ use Rattle.script_text.specs.Grammar as grammar
 use Rattle.script_text.specs.Grammar.{Line, parse}
 use Rattle.script_text.specs.Text as text
 use Rattle.script_run.specs.Output.{Carried, carried, carry_out, or_refused, perform, performed, text_of, without_return, statistics_answer}
-use Rattle.mvcc_engine.specs.views.Seen.{Tells}
+use Rattle.write_rule.specs.views.Seen.{Tells}
 use Rattle.script_text.specs.views.SeenLine.{is_blank}
 use Rattle.script_run.specs.views.Answered.{IsAnswered, IsRefusedOr}
 use Rattle.script_text.proofs.TextLaws.{two_pieces, Extends-same}

@@ -2,6 +2,7 @@
 use Rattle.std.specs.Prelude.{◌≡◌, ℕ, ◌+◌, ◌<◌, ◌≤◌, Bool, true, false, not, ◌||◌, List, [], ◌∷◌, length, take, drop, position, cond, nat_lt, Some, None, ◌==◌}
 use Rattle.std.specs.List.{position_or_len, prefix_len, AllByRecursion, list_any}
 use Rattle.std.proofs.Common.{zero, suc, refl, ap, arith, get_or, add-one}
+use Rattle.std.proofs.lemmas.Bool.{not-true}
 use Rattle.std.proofs.lemmas.Bool.Decides.{nat_tests}
 use Rattle.std.proofs.lemmas.List.Quantifiers.{position-Some}
 use Rattle.mvcc_key.specs.Cutting.{onto_first, pieces, cut_at}
@@ -24,18 +25,10 @@ none-position p xs none = by (nat_lt (position_or_len p xs) (length xs)) refl no
     by true is h = cc
     by false is h = let long : length xs ≤ prefix_len (λ x. not (p x)) xs = grind (arith, nat_tests) in whole_front (λ x. not (p x)) xs long
 
-pub not_true : (b : Bool) → not b ≡ true → b ≡ false
-not_true true h = cc
-not_true false h = refl
-
-pub not_false : (b : Bool) → not b ≡ false → b ≡ true
-not_false true h = refl
-not_false false h = cc
-
 module _ (test : ℕ → Bool) where
   one_piece : (xs : List ℕ) → AllByRecursion (λ x. not (test x) ≡ true) xs → pieces test xs ≡ xs ∷ []
   one_piece [] none = refl
-  one_piece (x ∷ xs) none = rw (not_true (test x) none.0) (ap (onto_first x) (one_piece xs none.1))
+  one_piece (x ∷ xs) none = rw (not-true (test x) none.0) (ap (onto_first x) (one_piece xs none.1))
 
   -- where no byte cuts there is one piece
   pub pieces-uncut : (xs : List ℕ) → position test xs ≡ None → pieces test xs ≡ xs ∷ []
@@ -56,7 +49,7 @@ module _ (test : ℕ → Bool) where
 
 pub none_any : {X : Type 0} (p : X → Bool) (xs : List X) → AllByRecursion (λ x. not (p x) ≡ true) xs → list_any p xs ≡ false
 none_any p [] none = refl
-none_any p (x ∷ xs) none = rw (not_true (p x) none.0) (none_any p xs none.1)
+none_any p (x ∷ xs) none = rw (not-true (p x) none.0) (none_any p xs none.1)
 
 pub some_any : {X : Type 0} (p : X → Bool) (xs : List X) (i : ℕ) (d : X) → i < length xs → p (get_or xs i d) ≡ true → list_any p xs ≡ true
 some_any p [] i d within is = absurd (omega arith)

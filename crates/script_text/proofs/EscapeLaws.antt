@@ -3,14 +3,9 @@ use Rattle.std.specs.Prelude.{◌≡◌, ℕ, ◌+◌, ◌*◌, Bool, true, fals
 use Rattle.std.specs.List.{list_all}
 use Rattle.std.specs.Char.{digit_value}
 use Rattle.std.proofs.Common.{refl, ap, ◌∙◌, arith, append-nil}
-use Rattle.std.proofs.lemmas.Bool.{and_parts}
+use Rattle.std.proofs.lemmas.Bool.{and_parts, and_right, not-true}
 use Rattle.std.proofs.lemmas.Bool.Decides.{nat_tests}
-use Rattle.script_text.proofs.CutLaws.{not_true}
 use Rattle.script_text.specs.Forms.{where_it, is_printed, is_hex_digit, Symbol, Backslash, Other, symbol, byte_and, written, text}
-
-and_false : (b : Bool) → (b && false) ≡ false
-and_false true = refl
-and_false false = refl
 
 -- nothing is left
 pub all_read : (bytes rest read : List ℕ) → text bytes ≡ option_map (λ more. read ++ more) (text rest) → rest ≡ [] → text bytes ≡ Some read
@@ -24,7 +19,7 @@ plain_text [] plain = refl
 plain_text (b ∷ bs) plain =
     let both = and_parts (is_printed b && not (b == 0x5c)) (list_all (λ b. is_printed b && not (b == 0x5c)) bs) plain in
     let first = and_parts (is_printed b) (not (b == 0x5c)) both.0 in
-    rw (not_true (b == 0x5c) first.1) (rw first.0 (rw (plain_text bs both.1) refl))
+    rw (not-true (b == 0x5c) first.1) (rw first.0 (rw (plain_text bs both.1) refl))
 
 -- the first byte of a text
 pub text-printed : (b : ℕ) (bs : List ℕ) → (b == 0x5c) ≡ false → is_printed b ≡ true → text (b ∷ bs) ≡ option_map (λ more. b ∷ more) (text bs)
@@ -81,7 +76,7 @@ text-digits high low bs = by (high == 0x5c) refl (low == 0x5c) refl
         → written (Backslash ∷ Other 0x78 ∷ (if h then Backslash else Other high) ∷ (if l then Backslash else Other low) ∷ map symbol bs)
         ≡ byte_and (is_hex_digit high && is_hex_digit low) (digit_value high * 16 + digit_value low) (written (map symbol bs))
     by true h l is = rw (no_hex high h) refl
-    by false h true is = rw (no_hex low is, and_false (is_hex_digit high)) refl
+    by false h true is = rw (no_hex low is, and_right (is_hex_digit high) false refl) refl
     by false h false is = refl
 
 pub text-hex : (high low : ℕ) (bs : List ℕ) (b : ℕ) → where_it (is_hex_digit high && is_hex_digit low) (digit_value high * 16 + digit_value low) ≡ Some b

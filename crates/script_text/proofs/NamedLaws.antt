@@ -6,8 +6,8 @@ use Rattle.std.proofs.lemmas.List.{get_or-map, length-map}
 use Rattle.std.proofs.lemmas.List.Folds.{list_any-append, list_all-append}
 use Rattle.std.proofs.lemmas.List.Quantifiers.{position-Some}
 use Rattle.std.proofs.lemmas.Slice.Eq.{bytes_eq-Decides}
-use Rattle.std.proofs.lemmas.Bool.{and_parts, false≢true}
-use Rattle.script_text.proofs.CutLaws.{not_true, none_any, some_any, none-position}
+use Rattle.std.proofs.lemmas.Bool.{and_parts, and_from, or_parts, or_from, not-true, not_from_false, false≢true}
+use Rattle.script_text.proofs.CutLaws.{none_any, some_any, none-position}
 use Rattle.script_text.specs.Words.{Word, is_named, is_allowed, are_distinct, are_only, only, has, value_of}
 use Rattle.script_text.specs.declared.words.Word as code
 use Rattle.script_text.specs.views.SeenLine.{word_of}
@@ -27,19 +27,6 @@ other_way m n other = by (bytes_eq n m) refl
     by true is = absurd (false≢true (sym other ∙ subst (λ k. bytes_eq m k ≡ true) (sym (same n m is)) (itself m)))
     by false is = is
 
-or_parts : (a b : Bool) → (a || b) ≡ false → (a ≡ false) × (b ≡ false)
-or_parts true b none = cc
-or_parts false b none = (refl, none)
-
-or_false : (a b : Bool) → a ≡ false → b ≡ false → (a || b) ≡ false
-or_false a b x y = rw (x, y) refl
-
-not_is : (b : Bool) → b ≡ false → not b ≡ true
-not_is b is = rw is refl
-
-and_both : (a b : Bool) → a ≡ true → b ≡ true → (a && b) ≡ true
-and_both a b x y = rw (x, y) refl
-
 -- a name of the list is none of others that are apart from it
 apart-none : (n : List ℕ) (ns : List (List ℕ)) (i : ℕ) → list_any (bytes_eq n) ns ≡ false → i < length ns → bytes_eq n (get_or ns i []) ≡ false
 apart-none n ns i none within = by (bytes_eq n (get_or ns i [])) refl
@@ -52,7 +39,7 @@ apart-left : (m : List ℕ) (ns fs : List (List ℕ)) (i : ℕ) → are_apart (n
 apart-left m [] fs i apart within is = absurd (omega arith)
 apart-left m (n ∷ ns) fs zero apart within is =
     let both = and_parts (not (list_any (bytes_eq n) (ns ++ fs))) (are_apart (ns ++ fs)) apart in
-    let none = sym (list_any-append (bytes_eq n) ns fs) ∙ not_true (list_any (bytes_eq n) (ns ++ fs)) both.0 in
+    let none = sym (list_any-append (bytes_eq n) ns fs) ∙ not-true (list_any (bytes_eq n) (ns ++ fs)) both.0 in
     subst (λ k. list_any (bytes_eq k) fs ≡ false) (sym (same m n is)) (or_parts (list_any (bytes_eq n) ns) (list_any (bytes_eq n) fs) none).1
 apart-left m (n ∷ ns) fs (suc i) apart within is = apart-left m ns fs i (and_parts (not (list_any (bytes_eq n) (ns ++ fs))) (are_apart (ns ++ fs)) apart).1 (omega arith) is
 
@@ -60,17 +47,17 @@ apart-right : (m : List ℕ) (ns fs : List (List ℕ)) (i : ℕ) → are_apart (
 apart-right m [] fs i apart within is = refl
 apart-right m (n ∷ ns) fs i apart within is =
     let both = and_parts (not (list_any (bytes_eq n) (ns ++ fs))) (are_apart (ns ++ fs)) apart in
-    let none = sym (list_any-append (bytes_eq n) ns fs) ∙ not_true (list_any (bytes_eq n) (ns ++ fs)) both.0 in
+    let none = sym (list_any-append (bytes_eq n) ns fs) ∙ not-true (list_any (bytes_eq n) (ns ++ fs)) both.0 in
     let other = apart-none n fs i (or_parts (list_any (bytes_eq n) ns) (list_any (bytes_eq n) fs) none).1 within in
     let not_n = other_way n m (subst (λ k. bytes_eq n k ≡ false) (sym (same m (get_or fs i []) is)) other) in
-    or_false (bytes_eq m n) (list_any (bytes_eq m) ns) not_n (apart-right m ns fs i both.1 within is)
+    or_from (bytes_eq m n) (list_any (bytes_eq m) ns) not_n (apart-right m ns fs i both.1 within is)
 
 apart-front : (ns fs : List (List ℕ)) → are_apart (ns ++ fs) ≡ true → are_apart ns ≡ true
 apart-front [] fs apart = refl
 apart-front (n ∷ ns) fs apart =
     let both = and_parts (not (list_any (bytes_eq n) (ns ++ fs))) (are_apart (ns ++ fs)) apart in
-    let none = sym (list_any-append (bytes_eq n) ns fs) ∙ not_true (list_any (bytes_eq n) (ns ++ fs)) both.0 in
-    and_both (not (list_any (bytes_eq n) ns)) (are_apart ns) (not_is (list_any (bytes_eq n) ns) (or_parts (list_any (bytes_eq n) ns) (list_any (bytes_eq n) fs) none).0) (apart-front ns fs both.1)
+    let none = sym (list_any-append (bytes_eq n) ns fs) ∙ not-true (list_any (bytes_eq n) (ns ++ fs)) both.0 in
+    and_from (not (list_any (bytes_eq n) ns)) (are_apart ns) (not_from_false (list_any (bytes_eq n) ns) (or_parts (list_any (bytes_eq n) ns) (list_any (bytes_eq n) fs) none).0) (apart-front ns fs both.1)
 
 apart-back : (ns fs : List (List ℕ)) → are_apart (ns ++ fs) ≡ true → are_apart fs ≡ true
 apart-back [] fs apart = apart
@@ -88,11 +75,11 @@ module _ {A : Type 0} (f g : List ℕ → A) (m : List ℕ) (x : A) (others : (n
   map-at [] i apart within is = absurd (omega arith)
   map-at (n ∷ ns) zero apart within is =
       let both = and_parts (not (list_any (bytes_eq n) ns)) (are_apart ns) apart in
-      let none = subst (λ k. list_any (bytes_eq k) ns ≡ false) (sym (same m n is)) (not_true (list_any (bytes_eq n) ns) both.0) in
+      let none = subst (λ k. list_any (bytes_eq k) ns ≡ false) (sym (same m n is)) (not-true (list_any (bytes_eq n) ns) both.0) in
       ap₂ (λ y ys. y ∷ ys) (ap g (sym (same m n is)) ∙ here) (map-same ns none)
   map-at (n ∷ ns) (suc i) apart within is =
       let both = and_parts (not (list_any (bytes_eq n) ns)) (are_apart ns) apart in
-      let other = apart-none n ns i (not_true (list_any (bytes_eq n) ns) both.0) (omega arith) in
+      let other = apart-none n ns i (not-true (list_any (bytes_eq n) ns) both.0) (omega arith) in
       let not_n = other_way n m (subst (λ k. bytes_eq n k ≡ false) (sym (same m (get_or ns i []) is)) other) in
       ap₂ (λ y ys. y ∷ ys) (others n not_n) (map-at ns i both.1 (omega arith) is)
 
@@ -144,18 +131,18 @@ module _ (w : Word) where
       let both = and_parts (not (has x.name xs)) (are_distinct xs) distinct in
       let parts = or_parts (bytes_eq x.name w.name) (list_any (is_named w.name) xs) new in
       let none : has x.name (xs ++ w ∷ []) ≡ false =
-      has-more xs x.name ∙ or_false (has x.name xs) (bytes_eq w.name x.name) (not_true (has x.name xs) both.0) (other_way x.name w.name parts.0) in
-      and_both (not (has x.name (xs ++ w ∷ []))) (are_distinct (xs ++ w ∷ [])) (not_is (has x.name (xs ++ w ∷ [])) none) (distinct-more xs both.1 parts.1)
+      has-more xs x.name ∙ or_from (has x.name xs) (bytes_eq w.name x.name) (not-true (has x.name xs) both.0) (other_way x.name w.name parts.0) in
+      and_from (not (has x.name (xs ++ w ∷ []))) (are_distinct (xs ++ w ∷ [])) (not_from_false (has x.name (xs ++ w ∷ [])) none) (distinct-more xs both.1 parts.1)
 
   distinct-front : (ws rest : List Word) → are_distinct (ws ++ w ∷ rest) ≡ true → has w.name ws ≡ false
   unfolding has
   distinct-front [] rest distinct = refl
   distinct-front (x ∷ xs) rest distinct =
       let both = and_parts (not (has x.name (xs ++ w ∷ rest))) (are_distinct (xs ++ w ∷ rest)) distinct in
-      let none = sym (list_any-append (is_named x.name) xs (w ∷ rest)) ∙ not_true (has x.name (xs ++ w ∷ rest)) both.0 in
+      let none = sym (list_any-append (is_named x.name) xs (w ∷ rest)) ∙ not-true (has x.name (xs ++ w ∷ rest)) both.0 in
       let behind = (or_parts (list_any (is_named x.name) xs) (list_any (is_named x.name) (w ∷ rest)) none).1 in
       let other = (or_parts (bytes_eq w.name x.name) (list_any (is_named x.name) rest) behind).0 in
-      or_false (bytes_eq x.name w.name) (list_any (is_named w.name) xs) (other_way w.name x.name other) (distinct-front xs rest both.1)
+      or_from (bytes_eq x.name w.name) (list_any (is_named w.name) xs) (other_way w.name x.name other) (distinct-front xs rest both.1)
 
 -- what is said of a name tells whether it stands
 module _ (names flags : List (List ℕ)) (m : List ℕ) where
@@ -188,8 +175,8 @@ only-more : (names flags : List (List ℕ)) (ws : List Word) (w : Word) → are_
 unfolding are_only
 only-more names flags ws w only allowed new =
     let both = and_parts (list_all (is_allowed names flags) ws) (are_distinct ws) only in
-    let all = list_all-append (is_allowed names flags) ws (w ∷ []) ∙ and_both (list_all (is_allowed names flags) ws) (is_allowed names flags w && true) both.0 (and_both (is_allowed names flags w) true allowed refl) in
-    and_both (list_all (is_allowed names flags) (ws ++ w ∷ [])) (are_distinct (ws ++ w ∷ [])) all (distinct-more w ws both.1 new)
+    let all = list_all-append (is_allowed names flags) ws (w ∷ []) ∙ and_from (list_all (is_allowed names flags) ws) (is_allowed names flags w && true) both.0 (and_from (is_allowed names flags w) true allowed refl) in
+    and_from (list_all (is_allowed names flags) (ws ++ w ∷ [])) (are_distinct (ws ++ w ∷ [])) all (distinct-more w ws both.1 new)
 
 -- a word that is not so, wherever it stands
 pub only-fails : (names flags : List (List ℕ)) (ws rest : List Word) (w : Word) → (is_allowed names flags w ≡ false) ⊎ (has w.name ws ≡ true) → are_only names flags (ws ++ w ∷ rest) ≡ false

@@ -2,17 +2,18 @@
 use Rattle.std.specs.Prelude.{◌≡◌, ℕ, ◌+◌, ◌<◌, ◌≤◌, Bool, true, false, not, List, [], ◌∷◌, length, take, drop, position, Some, None}
 use Rattle.std.specs.List.{AllByRecursion}
 use Rattle.std.proofs.Common.{zero, suc, refl, sym, subst, arith, get_or}
+use Rattle.std.proofs.lemmas.Bool.{not-true, not-false}
 use Rattle.std.proofs.lemmas.List.Quantifiers.{position-Some}
 use Rattle.mvcc_key.specs.Lists.{is_empty}
 use Rattle.script_text.specs.Words.{is_blank, words}
-use Rattle.script_text.proofs.CutLaws.{not_true, not_false, none-position, pieces-cut, pieces-uncut}
+use Rattle.script_text.proofs.CutLaws.{none-position, pieces-cut, pieces-uncut}
 
 words_from : (xs : List ℕ) (i : ℕ) → i ≤ length xs → ((k : ℕ) → k < i → not (is_blank (get_or xs k 0)) ≡ false) → words xs ≡ words (drop i xs)
 unfolding words
 words_from xs zero low blank = refl
 words_from [] (suc i) low blank = absurd (omega arith)
 words_from (x ∷ xs) (suc i) low blank =
-    let first : is_blank x ≡ true = not_false (is_blank x) (blank 0 (omega arith)) in
+    let first : is_blank x ≡ true = not-false (is_blank x) (blank 0 (omega arith)) in
     rw first (words_from xs i (omega arith) (λ k less. blank (suc k) (omega arith)))
 
 -- blanks before a word count for nothing
@@ -48,7 +49,7 @@ unfolding BeginsWord
 begins-word xs i some =
     let at = position-Some (λ b. not (is_blank b)) xs i 0 some in
     let rest = drop-at xs i at.0 in
-    (get_or xs i 0, rest.0, rest.1, not_true (is_blank (get_or xs i 0)) at.1)
+    (get_or xs i 0, rest.0, rest.1, not-true (is_blank (get_or xs i 0)) at.1)
 
 not_empty : (x : ℕ) (ys : List ℕ) (i : ℕ) → is_blank x ≡ false → is_blank (get_or (x ∷ ys) i 0) ≡ true → not (is_empty (take i (x ∷ ys))) ≡ true
 not_empty x ys zero plain blank = cc

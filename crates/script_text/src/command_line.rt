@@ -124,7 +124,7 @@ fn next_option(words: &[String]) -> Option<(Word<'_>, &[String])>
     ensures shorter { IfSome result (λ r. length r.1.now < length words.now) }
 {
     let (first, behind) = words.split_first()?;
-    let option = Word::of(first.as_bytes());
+    let option = Word::over(first.as_bytes());
     if option.value.is_some() || option.is_named(b"--stats") {
         return Some((option, behind));
     }

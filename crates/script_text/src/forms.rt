@@ -10,21 +10,18 @@ ghost use Rattle.script_text.specs.views.Reading.{Gives};
 use crate::cutting::cut;
 use crate::fault::LineFault;
 use crate::unescape::{is_printed, unescape};
-use mvcc_key::Timestamp;
+use mvcc_key::{MAX_COUNT, MAX_WALL, Timestamp};
 use std::alloc::Global;
 use std::borrow::CowSlice;
 
 /// The last second that a wall time holds whole.
-const MAX_SECONDS: u64 = 9_223_372_036;
+const MAX_SECONDS: u64 = MAX_WALL / 1_000_000_000;
 
 /// The greatest number that a NUM writes.
 const MAX_NUMBER: u64 = (1 << 63) - 1;
 
 /// The most digits that a NUM has.
 const MAX_DIGITS: usize = 19;
-
-/// The greatest logical counter.
-const MAX_LOGICAL: u64 = (1 << 31) - 1;
 
 /// The bytes that a TEXT writes, where it is one: bytes 21 to 7e but `\` stand for themselves, `\\` is a backslash, and `\xHH`
 /// any byte, by two hexadecimal digits of either case. A text without escapes is lent.
@@ -82,7 +79,7 @@ fn wall(bytes: &[u8]) -> Option<u64>
     let seconds = number(whole, MAX_SECONDS)?;
     let rest = fraction(behind)?;
     let nanos = seconds * 1_000_000_000 + rest;
-    if nanos < 1 << 63 { Some(nanos) } else { None }
+    if nanos <= MAX_WALL { Some(nanos) } else { None }
 }
 
 fn fraction(digits: Option<&[u8]>) -> Option<u64>
@@ -116,7 +113,7 @@ fn counter(digits: Option<&[u8]>) -> Option<u32>
     let Some(digits) = digits else {
         return Some(0);
     };
-    let counter = number(digits, MAX_LOGICAL)?;
+    let counter = number(digits, u64::from(MAX_COUNT))?;
     Some(counter as u32)
 }
 

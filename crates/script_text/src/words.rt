@@ -25,7 +25,7 @@ pub struct Word<'a> {
 
 impl<'a> Word<'a> {
     /// The word of these bytes, cut at its first equals sign.
-    pub fn of(bytes: &'a [u8]) -> Word<'a>
+    pub fn over(bytes: &'a [u8]) -> Word<'a>
         ensures { word_of result ≡ spec.word_of bytes.now }
     {
         let (name, value) = cut(bytes, b'=');
@@ -67,7 +67,7 @@ pub fn read_words(alloc: Global, line: &[u8]) -> Result<SmallVec<Word<'_>, FEW>,
     let mut words = SmallVec::new(alloc);
     let mut rest = line;
     while let Some((word, behind)) = next_word(rest) {
-        words.push(Word::of(word))?;
+        words.push(Word::over(word))?;
         rest = behind;
     }
     Ok(words)

@@ -1,13 +1,13 @@
 -- Bounds that statistics keep, and what they say of overflow.
-use Rattle.std.specs.Prelude.{◌≡◌, ℕ, ◌<◌, ◌+◌, ◌≤◌, Bool, true, false, cond, List, [], ◌∷◌, length, filter, find, map, Option, Some, None, nat_lt}
+use Rattle.std.specs.Prelude.{◌≡◌, ℕ, ◌<◌, ◌+◌, ◌≤◌, Bool, true, false, cond, List, [], ◌∷◌, length, find, map, Option, Some, None, nat_lt}
 use Rattle.std.specs.List.{AllByRecursion}
 use Rattle.std.proofs.Common.{refl, sym, ◌∙◌, ap, subst, arith}
 use Rattle.std.proofs.lemmas.Bool.Decides.{nat_tests}
-use Rattle.mvcc_key.specs.Order.{Timestamp, Key, is_within, Pair}
-use Rattle.mvcc_key.specs.Fragments.{Fragment, cut_to, stack_at}
+use Rattle.mvcc_key.specs.Order.{Timestamp, Key, Pair}
+use Rattle.mvcc_key.specs.Fragments.{Fragment, stack_at}
 use Rattle.mvcc_key.specs.Field.{Field, KeyCount, KeyBytes, ValCount, ValBytes, LiveCount, LiveBytes, IntentCount, IntentBytes, IntentAge, GcBytesAge, RangeKeyCount, RangeKeyBytes, RangeValCount, RangeValBytes, all_fields}
 use Rattle.stat_core.specs.DeadSince.{VersionShape, dead_since}
-use Rattle.stat_core.specs.ComputeStats.{Sums, no_sums, ◌⊕◌, total, version_sums, versions_sums, KeyShape, own_sums, newest_dead, intent_sums, key_sums, tombstone_sums, fragment_sums, pairs_of, key_shape, keys_of, sums_at, sums_of_fragment, compute_stats, compute_span, field, overflowing}
+use Rattle.stat_core.specs.ComputeStats.{Sums, no_sums, ◌⊕◌, total, version_sums, versions_sums, KeyShape, own_sums, newest_dead, intent_sums, key_sums, tombstone_sums, fragment_sums, pairs_of, key_shape, keys_of, sums_at, sums_of_fragment, compute_stats, field, overflowing}
 use Rattle.stat_core.specs.Laws.{others_of, share, IsAtMost}
 use Rattle.stat_core.proofs.KeyChangeLaws.{field-⊕, compute_stats-split}
 
@@ -83,21 +83,9 @@ compute_stats-bounds now pairs fs =
     (bounds-total (sums_at now pairs fs) (keys_of pairs) (λ key. key_sums-bounds now (key_shape key (pairs_of key pairs) (stack_at fs key))))
     (bounds-total (sums_of_fragment now) fs (λ f. fragment_sums-bounds now (length f.start) (length f.end) f.stack))
 
--- and those of a span
-pub compute_span-bounds : (now : ℕ) (start end : Key) (pairs : List Pair) (fs : List Fragment) → AreInBounds (compute_span now start end pairs fs)
-unfolding compute_span
-compute_span-bounds now start end pairs fs =
-    bounds-⊕ (total (map (sums_at now pairs fs) (filter (is_within start end) (keys_of pairs)))) (total (map (sums_of_fragment now) (cut_to start end fs)))
-    (bounds-total (sums_at now pairs fs) (filter (is_within start end) (keys_of pairs)) (λ key. key_sums-bounds now (key_shape key (pairs_of key pairs) (stack_at fs key))))
-    (bounds-total (sums_of_fragment now) (cut_to start end fs) (λ f. fragment_sums-bounds now (length f.start) (length f.end) f.stack))
-
 -- the first part is at most the whole
 pub first-part : (s t : Sums) → IsAtMost s (s ⊕ t)
 first-part s t f = rw (field-⊕ f s t) (omega arith)
-
--- the second part is at most the whole
-pub second-part : (s t : Sums) → IsAtMost t (s ⊕ t)
-second-part s t f = rw (field-⊕ f s t) (omega arith)
 
 -- what a key adds is at most the whole
 pub share-part : (now : ℕ) (pairs : List Pair) (fs : List Fragment) (k : Key) → IsAtMost (share now pairs fs k) (compute_stats now pairs fs)

@@ -1,7 +1,6 @@
 -- What a put changes: a version on top of a key's others, and a key's first version.
 use Rattle.std.specs.Prelude.{◌≡◌, ℕ, ◌+◌, pos, ◌-ℤ◌, Bool, true, false, cond, ◌==◌, ◌&&◌, List, [], ◌∷◌, filter}
-use Rattle.std.specs.declared.cmp.Ordering.{Ordering}
-use Rattle.std.specs.declared.cmp.Ordering.TheVariants.{Less, Equal, Greater}
+use Rattle.std.specs.declared.cmp.Ordering.TheVariants.{Less, Equal}
 use Rattle.std.specs.Ordering.{is_lt, ordering_then, nat_cmp}
 use Rattle.std.specs.List.Sorted.{IsStrictlySortedBy}
 use Rattle.std.proofs.Common.{refl, sym, ◌∙◌, ap, arith}
@@ -9,12 +8,13 @@ use Rattle.std.proofs.lemmas.Bool.Decides.{nat_tests}
 use Rattle.std.proofs.lemmas.Cmp.{tied_itself}
 use Rattle.std.proofs.lemmas.Int.{ints}
 use Rattle.mvcc_key.specs.Lists.{put_in_order}
-use Rattle.mvcc_key.specs.Order.{Timestamp, is_no_time, is_before, time_cmp, key_cmp, is_same_key, Pair, pair_cmp}
+use Rattle.mvcc_key.specs.Order.{Timestamp, is_no_time, is_before, key_cmp, is_same_key, Pair, pair_cmp}
 use Rattle.mvcc_key.specs.Fragments.{Fragment, stack_at}
 use Rattle.mvcc_key.specs.Field.{Field}
 use Rattle.mvcc_key.proofs.FragmentLaws.{same_key}
 use Rattle.mvcc_key.proofs.OrderLaws.{key_cmp-total}
 use Rattle.mvcc_key.proofs.StackLaws.{same_key_is}
+use Rattle.mvcc_key.proofs.TimeLaws.{before_less}
 use Rattle.stat_core.specs.ComputeStats.{Sums, is_record, key_shape, key_sums, pairs_of, compute_stats, field, difference}
 use Rattle.stat_core.specs.Laws.{HasNoRecord}
 use Rattle.stat_core.proofs.KeyChangeLaws.{others_of-put, field-⊕}
@@ -30,11 +30,6 @@ filter-head test (x ∷ xs) y ys e = by (test x) refl e (filter-head test xs y y
     by true passes e rest = let same : x ≡ y = cc in ap test (sym same) ∙ passes
     by false fails e rest = rest e
 
-less_is : (o : Ordering) → is_lt o ≡ true → o ≡ Less
-less_is Less e = refl
-less_is Equal e = cc
-less_is Greater e = cc
-
 -- what another timestamp is before is one
 later_is_one : (s t : Timestamp) → is_before s t ≡ true → is_no_time t ≡ false
 later_is_one s t newer = by s.wall s.logical t.wall t.logical newer
@@ -47,7 +42,7 @@ pub newer_first : (p old : Pair) → old.name.key ≡ p.name.key → is_record o
 newer_first p old same version newer =
     let own : is_no_time p.name.ts ≡ false = later_is_one old.name.ts p.name.ts newer in
     let keys : key_cmp p.name.key old.name.key ≡ Equal = ap (key_cmp p.name.key) same ∙ tied_itself key_cmp-total p.name.key in
-    rw (keys, own, version) (less_is (time_cmp old.name.ts p.name.ts) newer)
+    rw (keys, own, version) (before_less old.name.ts p.name.ts newer)
 
 -- the key's pairs after the put
 on_top : (p old : Pair) (pairs rest : List Pair) → IsStrictlySortedBy pair_cmp pairs → pairs_of p.name.key pairs ≡ old ∷ rest

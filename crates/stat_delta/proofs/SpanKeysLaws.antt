@@ -1,14 +1,12 @@
 -- The keys of a span, and what stands above all that is kept of them.
 use Rattle.std.specs.Prelude.{◌≡◌, Bool, true, false, ◌&&◌, ◌||◌, cond, List, [], ◌∷◌, ◌++◌, filter, map, None, option_map}
-use Rattle.std.specs.declared.cmp.Ordering.{Ordering}
-use Rattle.std.specs.declared.cmp.Ordering.TheVariants.{Less, Equal, Greater}
-use Rattle.std.specs.Ordering.{is_lt}
+use Rattle.std.specs.declared.cmp.Ordering.TheVariants.{Less}
 use Rattle.std.specs.List.{AllByRecursion, list_any}
 use Rattle.std.proofs.Common.{refl, sym, ap, subst, ◌∙◌}
 use Rattle.std.proofs.lemmas.Cmp.{tied_itself}
 use Rattle.std.proofs.lemmas.Simd.{map-map}
 use Rattle.mvcc_key.specs.Lists.{put_in_order, first}
-use Rattle.mvcc_key.specs.Order.{Timestamp, newer_first, is_before, is_up_to, time_cmp, Key, key_cmp, is_same_key, is_below, is_at_or_below, is_within, Pair}
+use Rattle.mvcc_key.specs.Order.{Timestamp, newer_first, is_before, is_up_to, Key, key_cmp, is_same_key, is_below, is_at_or_below, is_within, Pair}
 use Rattle.mvcc_key.specs.History.{Version, Intent, RangeTombstone, History, versions_of, intent_of, intents_within}
 use Rattle.mvcc_key.specs.Items.{covers, tombstones_over}
 use Rattle.mvcc_key.proofs.OrderLaws.{key_cmp-total, key_cmp-IsAntisymmetric}
@@ -17,7 +15,7 @@ use Rattle.mvcc_key.proofs.SortedLaws.{IsBelowAll, put_in_order-first, in_order-
 use Rattle.mvcc_key.proofs.StackLaws.{same_key_is, both_true}
 use Rattle.mvcc_key.proofs.SpanCutLaws.{low_up}
 use Rattle.mvcc_key.proofs.EachLaws.{All-in_order, All-from_in_order, All-split, All-map, All-unmap, All-weaker, All-passing, unfiltered}
-use Rattle.mvcc_key.proofs.TimeLaws.{not_up_to}
+use Rattle.mvcc_key.proofs.TimeLaws.{before_less, not_up_to}
 use Rattle.intent_meta.specs.StoredPairs.{VersionOf, stored_pair}
 use Rattle.intent_meta.specs.KeyPairs.{key_pairs}
 use Rattle.intent_meta.proofs.KeyPairsLaws.{key_pairs-are}
@@ -110,16 +108,11 @@ stack-below h start end key ts above within =
     (filter (covers key) h.tombstones) (λ t own. by t own.0 own.1)
     (All-passing (λ t. is_below t.start end ≡ true → is_below start t.end ≡ true → is_before t.ts ts ≡ true) (covers key) h.tombstones above.tombstones)))
   where
-    less_from : (o : Ordering) → is_lt o ≡ true → o ≡ Less
-    less_from Less e = refl
-    less_from Equal e = cc
-    less_from Greater e = cc
-
     by : (t : RangeTombstone) → covers key t ≡ true → (is_below t.start end ≡ true → is_below start t.end ≡ true → is_before t.ts ts ≡ true) → newer_first ts t.ts ≡ Less
     by t over before =
         let own = both_true (is_at_or_below t.start key) (is_below key t.end) over in
         let span = both_true (is_at_or_below start key) (is_below key end) within in
-        less_from (time_cmp t.ts ts)
+        before_less t.ts ts
         (before (low_up t.start key end own.0 span.1) (low_up start key t.end span.0 own.1))
 
 -- ---- how a walk over pairs meets the keys

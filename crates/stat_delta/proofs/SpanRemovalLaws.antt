@@ -31,51 +31,46 @@ record KeptHaveKeys (start end : Key) (keys : List Key) (intents : List Intent) 
   of_intents : AllByRecursion (λ i. list_any (is_same_key i.key) keys ≡ true) (filter (λ i. is_within start end i.key) intents)
   of_versions : AllByRecursion (λ v. list_any (is_same_key v.key) keys ≡ true) (filter (λ v. is_within start end v.key) versions)
 
--- what is stored has the keys of what is kept
-have_keys-stored : (start end : Key) (keys : List Key) (h : History) → KeptHaveKeys start end keys h.intents h.versions → HaveKeysWithin start end keys (stored_pairs h)
-have_keys-stored start end keys h have =
-    subst (AllByRecursion (λ p. list_any (is_same_key p.name.key) keys ≡ true)) (sym (stored_pairs-filter (is_within start end) h))
-    (All-map (λ p. list_any (is_same_key p.name.key) keys ≡ true) stored_pair (stored_of is vs)
-    (All-in_order stored_cmp has (map RecordOf is ++ map (λ i. VersionOf (provisional i)) is ++ map VersionOf vs)
-    (All-append has (map RecordOf is ++ map (λ i. VersionOf (provisional i)) is) (map VersionOf vs)
-    (All-append has (map RecordOf is) (map (λ i. VersionOf (provisional i)) is)
-    (All-map has RecordOf is have.of_intents) (All-map has (λ i. VersionOf (provisional i)) is have.of_intents))
-    (All-map has VersionOf vs have.of_versions))))
-  where
-    has : Stored → Type 0
-    has x = list_any (is_same_key (stored_name x).key) keys ≡ true
+module _ (start end : Key) (keys : List Key) (h : History) where
+  -- its key is one of the keys
+  abbrev has : Stored → Type 0
+  has x = list_any (is_same_key (stored_name x).key) keys ≡ true
 
-    is : List Intent
-    is = filter (λ i. is_within start end i.key) h.intents
+  -- the intents of the span
+  abbrev is : List Intent
+  is = filter (λ i. is_within start end i.key) h.intents
 
-    vs : List Version
-    vs = filter (λ v. is_within start end v.key) h.versions
+  -- and its versions
+  abbrev vs : List Version
+  vs = filter (λ v. is_within start end v.key) h.versions
 
--- and the other way round
-have_keys-kept : (start end : Key) (keys : List Key) (h : History) → HaveKeysWithin start end keys (stored_pairs h) → KeptHaveKeys start end keys h.intents h.versions
-have_keys-kept start end keys h have =
-    record { of_intents = All-unmap has RecordOf is (of_rest.0); of_versions = All-unmap has VersionOf vs of_all.1 }
-  where
-    has : Stored → Type 0
-    has x = list_any (is_same_key (stored_name x).key) keys ≡ true
+  -- what is stored has the keys of what is kept
+  have_keys-stored : KeptHaveKeys start end keys h.intents h.versions → HaveKeysWithin start end keys (stored_pairs h)
+  have_keys-stored have =
+      subst (AllByRecursion (λ p. list_any (is_same_key p.name.key) keys ≡ true)) (sym (stored_pairs-filter (is_within start end) h))
+      (All-map (λ p. list_any (is_same_key p.name.key) keys ≡ true) stored_pair (stored_of is vs)
+      (All-in_order stored_cmp has (map RecordOf is ++ map (λ i. VersionOf (provisional i)) is ++ map VersionOf vs)
+      (All-append has (map RecordOf is ++ map (λ i. VersionOf (provisional i)) is) (map VersionOf vs)
+      (All-append has (map RecordOf is) (map (λ i. VersionOf (provisional i)) is)
+      (All-map has RecordOf is have.of_intents) (All-map has (λ i. VersionOf (provisional i)) is have.of_intents))
+      (All-map has VersionOf vs have.of_versions))))
 
-    is : List Intent
-    is = filter (λ i. is_within start end i.key) h.intents
+  -- and the other way round
+  have_keys-kept : HaveKeysWithin start end keys (stored_pairs h) → KeptHaveKeys start end keys h.intents h.versions
+  have_keys-kept have =
+      record { of_intents = All-unmap has RecordOf is (of_rest.0); of_versions = All-unmap has VersionOf vs of_all.1 }
+    where
+      of_all : AllByRecursion has (map RecordOf is ++ map (λ i. VersionOf (provisional i)) is) × AllByRecursion has (map VersionOf vs)
+      of_all =
+          All-split has (map RecordOf is ++ map (λ i. VersionOf (provisional i)) is) (map VersionOf vs)
+          (All-from_in_order stored_cmp has
+          (λ x y tie own. subst (λ k. list_any (is_same_key k) keys ≡ true) (name_cmp-key (stored_name x) (stored_name y) tie) own)
+          (map RecordOf is ++ map (λ i. VersionOf (provisional i)) is ++ map VersionOf vs)
+          (All-unmap (λ p. list_any (is_same_key p.name.key) keys ≡ true) stored_pair (stored_of is vs)
+          (subst (AllByRecursion (λ p. list_any (is_same_key p.name.key) keys ≡ true)) (stored_pairs-filter (is_within start end) h) have)))
 
-    vs : List Version
-    vs = filter (λ v. is_within start end v.key) h.versions
-
-    of_all : AllByRecursion has (map RecordOf is ++ map (λ i. VersionOf (provisional i)) is) × AllByRecursion has (map VersionOf vs)
-    of_all =
-        All-split has (map RecordOf is ++ map (λ i. VersionOf (provisional i)) is) (map VersionOf vs)
-        (All-from_in_order stored_cmp has
-        (λ x y tie own. subst (λ k. list_any (is_same_key k) keys ≡ true) (name_cmp-key (stored_name x) (stored_name y) tie) own)
-        (map RecordOf is ++ map (λ i. VersionOf (provisional i)) is ++ map VersionOf vs)
-        (All-unmap (λ p. list_any (is_same_key p.name.key) keys ≡ true) stored_pair (stored_of is vs)
-        (subst (AllByRecursion (λ p. list_any (is_same_key p.name.key) keys ≡ true)) (stored_pairs-filter (is_within start end) h) have)))
-
-    of_rest : AllByRecursion has (map RecordOf is) × AllByRecursion has (map (λ i. VersionOf (provisional i)) is)
-    of_rest = All-split has (map RecordOf is) (map (λ i. VersionOf (provisional i)) is) of_all.0
+      of_rest : AllByRecursion has (map RecordOf is) × AllByRecursion has (map (λ i. VersionOf (provisional i)) is)
+      of_rest = All-split has (map RecordOf is) (map (λ i. VersionOf (provisional i)) is) of_all.0
 
 -- what holds of those that pass a test holds of those of some of a list that pass it
 some_pass : {X : Type 0} (P : X → Type 0) (test stays : X → Bool) (xs : List X) → AllByRecursion P (filter test xs) → AllByRecursion P (filter test (filter stays xs))

@@ -1,7 +1,7 @@
 -- A write that is refused is refused for its cause.
 use Rattle.std.proofs.Common.{◌≡◌, ℕ, Bool, true, false, [], ◌∷◌, length, Option, Some, None, Result, Ok, Err, refl, ap, subst, inl, inr}
 use Rattle.std.specs.Prelude.{ℤ, ◌+ℤ◌, ◌⊎◌, ◌==◌, not, nat_lt}
-use Rattle.std.proofs.lemmas.Bool.{ltb-true, eqb-true}
+use Rattle.std.proofs.lemmas.Bool.{ltb-true, eqb-true, not-true}
 use Rattle.mvcc_key.specs.Steps.{◌>>=◌, unless_fault}
 use Rattle.mvcc_key.specs.Limits.{max_key_length, max_bytes_length, max_stored_length}
 use Rattle.mvcc_key.specs.Order.{is_no_time, is_up_to, Key}
@@ -72,10 +72,6 @@ module _ (h : History) (key : Key) (w : WriteRequest) where
       refused (Ok a) p = absurd cc
       refused (Err x) p = let same : x ≡ why = cc in ap Err same
 
-      failed : (b : Bool) → not b ≡ true → b ≡ false
-      failed true p = absurd cc
-      failed false p = refl
-
       by : (o : Option (Entry Body)) → first_write own.0 own.1 ≡ o → unchanged h (replay w.kind before (own.0).sequence o) ≡ Err why → HasCause h key w why
       by None here p =
           let said : replay w.kind before (own.0).sequence None ≡ Err why = refused (replay w.kind before (own.0).sequence None) p in
@@ -84,7 +80,7 @@ module _ (h : History) (key : Key) (w : WriteRequest) where
       by (Some x) here p =
           let said = refused (replay w.kind before (own.0).sequence (Some x)) p in
           let u = unless_err (not (is_body (new_body w.kind before) x.value)) (ReplayMismatch x.value) why (answer_to w.kind before x.value) said in
-          by_fault (ReplayMismatch x.value) why u.1 (record { own = own; replays = is; entry = x; here = here; told = refl; differs = failed (is_body (new_body w.kind before) x.value) u.0 })
+          by_fault (ReplayMismatch x.value) why u.1 (record { own = own; replays = is; entry = x; here = here; told = refl; differs = not-true (is_body (new_body w.kind before) x.value) u.0 })
 
   -- ---- a first write
 
@@ -98,11 +94,7 @@ module _ (h : History) (key : Key) (w : WriteRequest) where
     condition_cause : (why : Refusal) → unless_fault (not (meets_condition w.kind before)) (ConditionFailed before) w ≡ Err why → HasCause h key w why
     condition_cause why e =
         let u = unless_err (not (meets_condition w.kind before)) (ConditionFailed before) why w e in
-        by_fault (ConditionFailed before) why u.1 (record { new = new; told = refl; unmet = failed (meets_condition w.kind before) u.0 })
-      where
-        failed : (b : Bool) → not b ≡ true → b ≡ false
-        failed true p = absurd cc
-        failed false p = refl
+        by_fault (ConditionFailed before) why u.1 (record { new = new; told = refl; unmet = not-true (meets_condition w.kind before) u.0 })
 
     sum_cause : (by : ℤ) → w.kind ≡ Increment by → (b : Option Body) → before ≡ b → (why : Refusal) → incremented by b ≡ Err why → HasCause h key w why
     sum_cause by is None here why e = absurd cc
@@ -112,11 +104,7 @@ module _ (h : History) (key : Key) (w : WriteRequest) where
         by_fault (NotInteger (Bytes bytes)) why same (record { new = new; by = by; increments = is; bytes = bytes; told = refl; here = here })
     sum_cause by is (Some (Int old)) here why e =
         let u = unless_err (not (fits_64 (old +ℤ by))) (IntegerOverflow old by) why (Int (old +ℤ by)) e in
-        by_fault (IntegerOverflow old by) why u.1 (record { new = new; increments = is; here = here; leaves = failed (fits_64 (old +ℤ by)) u.0 })
-      where
-        failed : (b : Bool) → not b ≡ true → b ≡ false
-        failed true p = absurd cc
-        failed false p = refl
+        by_fault (IntegerOverflow old by) why u.1 (record { new = new; increments = is; here = here; leaves = not-true (fits_64 (old +ℤ by)) u.0 })
 
     body_cause : (kind : WriteKind) → w.kind ≡ kind → (why : Refusal) → new_body kind before ≡ Err why → HasCause h key w why
     body_cause (Put b) is why e = absurd cc

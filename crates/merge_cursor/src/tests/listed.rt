@@ -2,14 +2,11 @@
 ghost use Rattle.std.specs.Prelude.{◌≡◌, ◌<◌, ◌^◌, vec_len};
 ghost use Rattle.mvcc_key.specs.Points.{IsRising, AreEncodable};
 ghost use Rattle.std.specs.Bool.{OnTrue};
-ghost use Rattle.std.specs.declared.cmp.Ordering.TheVariants.{Less};
-ghost use Rattle.mvcc_key.specs.Order.{name_cmp};
-ghost use Rattle.mvcc_key.specs.Encoded.{name_in, IsName};
+ghost use Rattle.mvcc_key.specs.Encoded.{IsName};
 ghost use Rattle.mvcc_key.specs.views.SeenPoint.{points_of, AreNamed, IsAboveLast};
 
 use mvcc_key::{OutOfMemory, PointOp, SortedPairs, abbreviated_key, cmp_encoded, decode_key};
 use std::alloc::Global;
-use std::cmp::Ordering;
 
 #[derive(Drop)]
 pub struct Listed {
@@ -46,19 +43,8 @@ fn is_above_last(held: &[PointOp], key: &[u8]) -> bool
     ensures { OnTrue result (IsAboveLast held.now key.now) }
 {
     match held.last() {
-        Some(last) => is_below(last.key.as_slice(), key),
+        Some(last) => cmp_encoded(last.key.as_slice(), key).is_lt(),
         None => true,
-    }
-}
-
-fn is_below(a: &[u8], b: &[u8]) -> bool
-    requires left { IsName a.now }
-    requires right { IsName b.now }
-    ensures { OnTrue result (name_cmp (name_in a.now) (name_in b.now) ≡ Less) }
-{
-    match cmp_encoded(a, b) {
-        Ordering::Less => true,
-        Ordering::Equal | Ordering::Greater => false,
     }
 }
 

@@ -1,9 +1,10 @@
 -- How contracts see the values of the code.
-use Rattle.std.specs.Prelude.{◌≡◌, Option, Some, None, Result, Ok, Err, ⊤}
+use Rattle.std.specs.Prelude.{◌≡◌, Option, Some, None, Result, Ok, Err}
 use Rattle.mvcc_key.specs.Refusal as refusals
 use Rattle.mvcc_key.specs.views.Seen.{time_of}
 use Rattle.mvcc_key.specs.declared.memory.OutOfMemory.{OutOfMemory}
 use Rattle.stat_core.specs.views.Seen.{field_of}
+use Rattle.write_rule.specs.views.Seen.{Tells}
 use Rattle.mvcc_engine.specs.Step.{State, Reply, Finished, Stepped}
 use Rattle.mvcc_engine.specs.declared.refusal.Refusal.{Refusal}
 use Rattle.mvcc_engine.specs.declared.refusal.Refusal.TheVariants as refusal
@@ -25,11 +26,6 @@ refusal_of (refusal.CountOverflow field) = Some (refusals.CountOverflow (field_o
 abbrev pub as_refusal : AgeFault → Refusal
 as_refusal (fault.MomentTooEarly latest) = refusal.MomentTooEarly latest
 as_refusal (fault.CountOverflow field) = refusal.CountOverflow field
-
--- the refusal is this one, where it is one
-abbrev pub Tells : {A : Type 0} → Option refusals.Refusal → Result A refusals.Refusal → Type 0
-Tells None answer = ⊤
-Tells (Some why) answer = answer ≡ Err why
 
 -- a call is answered as its step says; a refused one leaves the state, and so does one that finds no memory
 abbrev pub Answers : {A : Type 0} → Result A Refusal → (A → Reply) → State → State → Result Stepped refusals.Refusal → Type 0

@@ -1,11 +1,13 @@
 -- Versions as the points of a store.
 use Rattle.std.specs.Prelude.{◌≡◌, ℕ, ◌≤◌, false, ◌&&◌, List, [], map, length, Option, Some, None, is_some, if◌then◌else◌}
+use Rattle.std.specs.List.{AllByRecursion}
 use Rattle.mvcc_key.specs.Order.{no_time, is_no_time, Key, is_same_key}
 use Rattle.mvcc_key.specs.Limits.{max_key_length, max_stored_length}
 use Rattle.mvcc_key.specs.Points.{Point}
 use Rattle.mvcc_key.specs.History.{Version, version_name}
 use Rattle.lsm_store.specs.Parts.{Part, first_parts}
-use Rattle.lsm_store.specs.Shown.{shown, parts_of}
+use Rattle.run_block.specs.RunFormat.{Run}
+use Rattle.lsm_store.specs.Shown.{shown, fragments_in, parts_of}
 use Rattle.intent_meta.specs.StoredPairs.{stored_value}
 use Rattle.mvcc_engine.specs.views.Spelled.{spelled_body}
 
@@ -52,5 +54,10 @@ abbrev pub nothing_held : Held
 nothing_held = record { versions = []; parts = first_parts }
 
 -- what the parts of a store hold
-abbrev pub held_in : List (List Point) → Held
-held_in lists = record { versions = stored_versions (shown lists); parts = parts_of lists }
+abbrev pub held_in : List Run → Held
+held_in parts = record { versions = stored_versions (shown parts); parts = parts_of parts }
+
+-- each point that is seen is a version, and there are no fragments
+pub record HoldsVersions (parts : List Run) : Type 0 where
+  pub versions : AllByRecursion IsVersion (shown parts)
+  pub no_fragments : fragments_in parts ≡ []

@@ -1,18 +1,12 @@
 -- How contracts see the values of the code.
 use Rattle.mvcc_key.specs.Order.{Timestamp}
 use Rattle.mvcc_key.specs.History as history
-use Rattle.mvcc_key.specs.Spans as spans
 use Rattle.mvcc_key.specs.declared.timestamp.Timestamp.{Timestamp as Declared}
-use Rattle.mvcc_key.specs.declared.span.Span.{Span}
 use Rattle.mvcc_key.specs.declared.span.SeqRange.{SeqRange}
 
 -- a timestamp
 abbrev pub time_of : Declared → Timestamp
 time_of t = record { wall = t.wall; logical = t.logical }
-
--- a span
-abbrev pub span_of : Span → spans.Span
-span_of s = record { start = s.start; end = s.end }
 
 -- a range of sequences
 abbrev pub range_of : SeqRange → history.SeqRange

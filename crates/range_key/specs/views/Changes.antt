@@ -1,9 +1,8 @@
 -- What a change makes of a list of fragments.
-use Rattle.std.specs.Prelude.{◌≡◌, Bool, List, ◌&&◌}
-use Rattle.std.specs.Cmp.Lexicographic.{pointwise}
-use Rattle.mvcc_key.specs.Order.{Timestamp, Key, is_same_key}
+use Rattle.std.specs.Prelude.{◌≡◌, Bool, List}
+use Rattle.mvcc_key.specs.Order.{Timestamp, Key}
 use Rattle.mvcc_key.specs.History.{RangeTombstone, with_tombstone}
-use Rattle.mvcc_key.specs.Fragments.{Fragment, fragments, is_same_stack, stack_at, take_out, tombstones_of}
+use Rattle.mvcc_key.specs.Fragments.{Fragment, fragments, stack_at, take_out, tombstones_of}
 use Rattle.mvcc_key.specs.Pieces.{stack_with, stack_without}
 
 -- whichever tombstones the old list shows, the new one shows them with one more
@@ -29,11 +28,3 @@ TakesFrom start end test old new = (key : Key) → stack_at new key ≡ stack_wi
 -- the fragments without the timestamps over the span that pass the test
 abbrev pub without_times : Key → Key → (Timestamp → Bool) → List Fragment → List Fragment
 without_times start end test fs = fragments (take_out start end (λ t. test t.ts) (tombstones_of fs))
-
--- the same bounds and the same stack
-abbrev pub is_same_fragment : Fragment → Fragment → Bool
-is_same_fragment f g = is_same_key f.start g.start && is_same_key f.end g.end && is_same_stack f.stack g.stack
-
--- the same fragments
-abbrev pub are_same_fragments : List Fragment → List Fragment → Bool
-are_same_fragments = pointwise is_same_fragment

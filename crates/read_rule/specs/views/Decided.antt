@@ -53,35 +53,22 @@ IsDecision r k (code.Uncertain ts local) = read.decision r k ≡ Err (refusal.Un
 IsDecision r k (code.TooOld ts) = read.decision r k ≡ Err (refusal.TooOld (time_of ts))
 IsDecision r k (code.EpochFault own other) = read.decision r k ≡ Err (refusal.EpochFault own other)
 
--- which refusal it is
+-- it is refused for another's intent
 abbrev pub is_conflict : Decision → Bool
-is_conflict (code.Value bytes ts) = false
-is_conflict code.Nothing = false
 is_conflict (code.Conflict id ts) = true
-is_conflict (code.Uncertain ts local) = false
-is_conflict (code.TooOld ts) = false
-is_conflict (code.EpochFault own other) = false
+is_conflict other = false
 
+-- for an item that the reader may not tell from an older one
 abbrev pub is_uncertain : Decision → Bool
-is_uncertain (code.Value bytes ts) = false
-is_uncertain code.Nothing = false
-is_uncertain (code.Conflict id ts) = false
 is_uncertain (code.Uncertain ts local) = true
-is_uncertain (code.TooOld ts) = false
-is_uncertain (code.EpochFault own other) = false
+is_uncertain other = false
 
+-- for a more recent item
 abbrev pub is_too_old : Decision → Bool
-is_too_old (code.Value bytes ts) = false
-is_too_old code.Nothing = false
-is_too_old (code.Conflict id ts) = false
-is_too_old (code.Uncertain ts local) = false
 is_too_old (code.TooOld ts) = true
-is_too_old (code.EpochFault own other) = false
+is_too_old other = false
 
+-- for an own intent of a later epoch
 abbrev pub is_epoch_fault : Decision → Bool
-is_epoch_fault (code.Value bytes ts) = false
-is_epoch_fault code.Nothing = false
-is_epoch_fault (code.Conflict id ts) = false
-is_epoch_fault (code.Uncertain ts local) = false
-is_epoch_fault (code.TooOld ts) = false
-is_epoch_fault (code.EpochFault own other) = true
+is_epoch_fault (code.EpochFault own held) = true
+is_epoch_fault other = false

@@ -7,7 +7,8 @@ use Rattle.mvcc_key.specs.Encoded.{IsName, name_in}
 use Rattle.mvcc_key.specs.views.AbbreviatedKey.{IsAbbreviatedKey}
 use Rattle.mvcc_key.specs.Points.{Point}
 use Rattle.mvcc_key.specs.declared.timestamp.Timestamp.{Timestamp as Declared}
-use Rattle.run_block.specs.RunFormat.{RangeOp, Run}
+use Rattle.mvcc_key.specs.RangeOperations.{RangeOp}
+use Rattle.run_block.specs.RunFormat.{Run}
 use Rattle.run_block.specs.TimeSpan.{times_of, span_of}
 use Rattle.run_block.specs.declared.index.Index.{Index}
 use Rattle.run_block.specs.declared.piece.Piece.{Piece}

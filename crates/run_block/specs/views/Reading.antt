@@ -7,7 +7,8 @@ use Rattle.mvcc_key.specs.KeyFormat.{KeyFault}
 use Rattle.mvcc_key.specs.Encoded.{IsName, name_in}
 use Rattle.mvcc_key.specs.Points.{Point}
 use Rattle.run_block.specs.RunFormat as words
-use Rattle.run_block.specs.RunFormat.{Rest, Placed, RangeOp, points_at, ranges_at}
+use Rattle.mvcc_key.specs.RangeOperations.{RangeOp}
+use Rattle.run_block.specs.RunFormat.{Rest, Placed, points_at, ranges_at}
 use Rattle.run_block.specs.views.Seen.{fault_of}
 use Rattle.run_block.specs.views.Places.{piece_in}
 use Rattle.run_block.specs.declared.fault.RunFault.{RunFault}

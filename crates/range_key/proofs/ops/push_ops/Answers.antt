@@ -3,8 +3,9 @@ use Rattle.std.proofs.lemmas.List.{take_all}
 use Rattle.mvcc_key.specs.Fragments.{Fragment}
 use Rattle.mvcc_key.specs.views.Seen.{time_of}
 use Rattle.mvcc_key.specs.declared.timestamp.Timestamp.{Timestamp}
-use Rattle.range_key.specs.RangeOps.{RangeOp, setting}
-use Rattle.range_key.specs.views.SeenOps.{range_ops_of}
+use Rattle.mvcc_key.specs.RangeOperations.{RangeOp}
+use Rattle.range_key.specs.RangeOps.{setting}
+use Rattle.mvcc_key.specs.views.SeenRange.{range_ops_of}
 use Rattle.range_key.proofs.OperationLaws.{operations_of-one}
 use Rattle.range_key.proofs.ops.push_ops.Goals as goal
 

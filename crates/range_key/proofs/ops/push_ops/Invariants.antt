@@ -1,7 +1,7 @@
 use Rattle.std.proofs.Common.{◌≡◌, ◌++◌, take, map}
 use Rattle.mvcc_key.specs.views.Seen.{time_of}
 use Rattle.range_key.specs.RangeOps.{set_tombstone}
-use Rattle.range_key.specs.views.SeenOps.{range_ops_of}
+use Rattle.mvcc_key.specs.views.SeenRange.{range_ops_of}
 use Rattle.range_key.proofs.ops.push_ops.Given as goal
 
 abbrev pub invariant-loop-ts : goal.invariant-loop-ts

@@ -1,4 +1,4 @@
-use Rattle.read_rule.proofs.AlikeLaws.{alike_read_alike}
+use Rattle.read_rule.proofs.ReadAlikeLaws.{alike_read_alike}
 use Rattle.read_rule.proofs.laws.alike_read_alike.Goals as goal
 
 pub returns : goal.returns

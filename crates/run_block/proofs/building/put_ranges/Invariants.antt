@@ -1,6 +1,6 @@
-use Rattle.run_block.specs.views.SeenRange.{ranges_of}
+use Rattle.mvcc_key.specs.views.SeenRange.{range_ops_of}
 use Rattle.run_block.proofs.AddingLaws.{IsAddingRanges}
 use Rattle.run_block.proofs.building.put_ranges.Given as goal
 
 abbrev pub invariant-loop-op : goal.invariant-loop-op
-invariant-loop-op l = IsAddingRanges (ranges_of l.ranges) l.op-index l.fn.out.items l.out.items l.fn.index l.index
+invariant-loop-op l = IsAddingRanges (range_ops_of l.ranges) l.op-index l.fn.out.items l.out.items l.fn.index l.index

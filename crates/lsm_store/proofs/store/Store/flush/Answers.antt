@@ -1,41 +1,43 @@
-use Rattle.std.proofs.Common.{◌≡◌, List, [], ◌∷◌, length, map, ap, sym, ◌∙◌, arith}
-use Rattle.std.proofs.lemmas.List.{nil_from_length}
-use Rattle.mvcc_key.specs.Points.{Point}
-use Rattle.mem_table.specs.Table.{Table}
+-- A table that is not empty becomes the newest run.
+use Rattle.std.proofs.Common.{◌≡◌, List, ◌∷◌, ap, sym, subst, ◌∙◌}
+use Rattle.mem_table.specs.Table.{Table, empty_table}
 use Rattle.run_block.specs.RunFormat.{Run}
 use Rattle.lsm_store.specs.Parts.{flushed}
-use Rattle.lsm_store.specs.Shown.{shown, parts_of}
-use Rattle.lsm_store.proofs.CompactLaws.{shown-nothing, flushed-empty, flushed-some}
+use Rattle.lsm_store.specs.Shown.{empty_run, shown, parts_of}
+use Rattle.lsm_store.specs.views.Closing.{IsRunOfTable, flushed_runs}
+use Rattle.lsm_store.specs.views.Seen.{run_of_table}
+use Rattle.lsm_store.proofs.CompactLaws.{parts-flushed, shown-flushed, flushed-none, flushed-some}
 use Rattle.lsm_store.proofs.store.Store.flush.Goals as goal
 
--- the lists after a flush
-now-lists : (table : Table) (runs new : List Run) (run : Run) (old : List Point) → table ≡ record { points = []; ranges = [] } → new ≡ run ∷ runs
-    → run ≡ record { points = old; ranges = [] } → table.points ∷ map (λ r. r.points) new ≡ [] ∷ old ∷ map (λ r. r.points) runs
-now-lists table runs new run old empty is is_run = λ i. (empty i).points ∷ (ap (map (λ (r : Run). r.points)) is ∙ ap (λ (r : Run). r.points ∷ map (λ (s : Run). s.points) runs) is_run) i
+-- the parts after a flush
+now-runs : (table : Table) (old run : Run) (runs new : List Run) → table ≡ empty_table → new ≡ run ∷ runs → (run ≡ old) × (old ≡ empty_run → ⊥)
+    → run_of_table table ∷ new ≡ empty_run ∷ flushed_runs old runs
+now-runs table old run runs new empty is made =
+    λ i. run_of_table (empty i) ∷ (is ∙ ap (λ (r : Run). r ∷ runs) made.0 ∙ sym (flushed-some old runs made.1)) i
 
--- a table with a name has a point
-some_held : (points : List Point) → (length points ≡ 0 → ⊥) → points ≡ [] → ⊥
-some_held points some none = some (ap length none)
+-- those of an empty table
+same-runs : (old : Run) (runs : List Run) → old ≡ empty_run → old ∷ runs ≡ empty_run ∷ flushed_runs old runs
+same-runs old runs empty = λ i. empty i ∷ sym (flushed-none old runs empty) i
 
-pub returns-then-len-eq0-clause-parts : goal.returns-then-len-eq0-clause-parts
-returns-then-len-eq0-clause-parts c =
-    let table = c.self.inside.table.points in
-    let runs = map (λ (r : Run). r.points) c.self.inside.runs.items in
-    ap parts_of (sym c.self.view_is) ∙ flushed-empty table runs (nil_from_length table (omega (arith, c.len.ensures, c.if-len-eq0.true))) ∙ ap (λ (ls : List (List Point)). flushed (parts_of ls)) c.self.view_is
-
-pub returns-clause-shown : goal.returns-clause-shown
-returns-clause-shown c =
-    let table = c.self.inside.table.points in
+pub returns-in_ok-insert-clause-shown : goal.returns-in_ok-insert-clause-shown
+returns-in_ok-insert-clause-shown c =
+    let table = run_of_table c.self.inside.table in
     let runs = c.self.inside.runs.items in
-    let run = c.in_ok-run.ensures.run ∙ ap (λ (ps : List Point). record { points = ps; ranges = [] }) c.cursor-2.ensures.points in
-    let now = now-lists c.new.result runs c.insert.new.self.items c.in_ok-run.run' table c.new.ensures c.in_ok-insert.ensures.items run in
-    ap shown now ∙ shown-nothing (table ∷ map (λ (r : Run). r.points) runs) ∙ ap shown c.self.view_is
+    let now = now-runs c.new.result table c.in-Some.run' runs c.insert.new.self.items c.new.ensures c.in_ok-insert.ensures.items
+    (subst (IsRunOfTable table) c.in-Some.is c.in_ok-run.ensures) in
+    ap shown now ∙ shown-flushed table runs ∙ ap shown c.self.view_is
 
-pub returns-clause-parts : goal.returns-clause-parts
-returns-clause-parts c =
-    let table = c.self.inside.table.points in
+pub returns-in_ok-insert-clause-parts : goal.returns-in_ok-insert-clause-parts
+returns-in_ok-insert-clause-parts c =
+    let table = run_of_table c.self.inside.table in
     let runs = c.self.inside.runs.items in
-    let run = c.in_ok-run.ensures.run ∙ ap (λ (ps : List Point). record { points = ps; ranges = [] }) c.cursor-2.ensures.points in
-    let now = now-lists c.new.result runs c.insert.new.self.items c.in_ok-run.run' table c.new.ensures c.in_ok-insert.ensures.items run in
-    ap parts_of now ∙ flushed-some table (map (λ (r : Run). r.points) runs) (some_held table (λ none. (let some = c.if-len-eq0.false in omega (arith, c.len.ensures))))
-    ∙ ap (λ (ls : List (List Point)). flushed (parts_of ls)) c.self.view_is
+    let now = now-runs c.new.result table c.in-Some.run' runs c.insert.new.self.items c.new.ensures c.in_ok-insert.ensures.items
+    (subst (IsRunOfTable table) c.in-Some.is c.in_ok-run.ensures) in
+    ap parts_of now ∙ parts-flushed table runs ∙ ap (λ (parts : List Run). flushed (parts_of parts)) c.self.view_is
+
+pub returns-in_default-clause-parts : goal.returns-in_default-clause-parts
+returns-in_default-clause-parts c =
+    let table = run_of_table c.self.inside.table in
+    let runs = c.self.inside.runs.items in
+    let same = same-runs table runs (subst (IsRunOfTable table) c.in_default.is c.in_ok-run.ensures) in
+    ap parts_of (sym c.self.view_is) ∙ ap parts_of same ∙ parts-flushed table runs ∙ ap (λ (parts : List Run). flushed (parts_of parts)) c.self.view_is

@@ -3,8 +3,8 @@ use Rattle.std.proofs.lemmas.Option.{slice_get_read}
 use Rattle.mvcc_key.specs.Encoded.{IsName}
 use Rattle.merge_cursor.proofs.tests.listed.is_above_last.Goals as goal
 
-pub is_below-requires-clause-left : goal.is_below-requires-clause-left
-is_below-requires-clause-left c =
+pub cmp_encoded-requires-clause-left : goal.cmp_encoded-requires-clause-left
+cmp_encoded-requires-clause-left c =
     let held = c.args.held.now in
     let last = c.in-Some.last.now in
     let item = c.in-Some.ensures.item in

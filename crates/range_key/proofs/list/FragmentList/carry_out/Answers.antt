@@ -1,5 +1,5 @@
 use Rattle.std.proofs.Common.{◌∙◌, ap, sym, not}
-use Rattle.range_key.specs.views.Changes.{are_same_fragments}
+use Rattle.mvcc_key.specs.SameFragments.{are_same_fragments}
 use Rattle.range_key.specs.views.Planned.{with_pieces}
 use Rattle.range_key.proofs.SameLaws.{are_same-true, not_false}
 use Rattle.range_key.proofs.list.FragmentList.carry_out.Goals as goal

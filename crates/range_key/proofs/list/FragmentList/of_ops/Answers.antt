@@ -6,8 +6,8 @@ use Rattle.mvcc_key.specs.Order.{is_below}
 use Rattle.mvcc_key.specs.declared.batch.RangeOp.{RangeOp}
 use Rattle.mvcc_key.proofs.CanonicalLaws.{fragments-canonical}
 use Rattle.range_key.specs.RangeOps.{tombstones_after}
-use Rattle.range_key.specs.RangeOps as words
-use Rattle.range_key.specs.views.SeenOps.{range_op_of, range_ops_of}
+use Rattle.mvcc_key.specs.RangeOperations as words
+use Rattle.mvcc_key.specs.views.SeenRange.{range_op_of, range_ops_of}
 use Rattle.range_key.proofs.ChangedLaws.{fragments-none}
 use Rattle.range_key.proofs.OperationLaws.{one-more}
 use Rattle.range_key.proofs.list.FragmentList.of_ops.Goals as goal

@@ -1,6 +1,6 @@
 use Rattle.std.proofs.Common.{◌∙◌, ap, sym, not, slice_range, List}
 use Rattle.mvcc_key.specs.Fragments.{Fragment}
-use Rattle.range_key.specs.views.Changes.{are_same_fragments}
+use Rattle.mvcc_key.specs.SameFragments.{are_same_fragments}
 use Rattle.range_key.proofs.SameLaws.{same-stretch}
 use Rattle.range_key.proofs.planned.Change.alters.Goals as goal
 

@@ -1,6 +1,6 @@
 use Rattle.std.proofs.Common.{◌≡◌, false, not, sym, subst}
 use Rattle.range_key.specs.declared.staged.Next.{Next}
-use Rattle.range_key.specs.views.Changes.{are_same_fragments}
+use Rattle.mvcc_key.specs.SameFragments.{are_same_fragments}
 use Rattle.range_key.specs.views.Staged.{next_of}
 use Rattle.range_key.specs.views.Stages.{Stage}
 use Rattle.range_key.proofs.SameLaws.{are_same-itself}

@@ -1,6 +1,6 @@
 use Rattle.std.proofs.Common.{◌∙◌, sym, ap, not, List}
 use Rattle.mvcc_key.specs.Fragments.{Fragment}
-use Rattle.range_key.specs.views.Changes.{are_same_fragments}
+use Rattle.mvcc_key.specs.SameFragments.{are_same_fragments}
 use Rattle.range_key.specs.views.Planned.{with_pieces}
 use Rattle.range_key.specs.views.Stages.{Stage}
 use Rattle.range_key.proofs.SameLaws.{are_same-true, not_false}

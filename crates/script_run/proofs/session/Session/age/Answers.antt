@@ -1,7 +1,8 @@
 -- Ageing is a step of the engine.
 use Rattle.std.proofs.Common.{◌≡◌, refl, subst, Ok, ◌∙◌}
 use Rattle.std.proofs.lemmas.Result.{err_from_is_err_and}
-use Rattle.mvcc_engine.specs.views.Seen.{Tells, refusal_of, as_refusal}
+use Rattle.write_rule.specs.views.Seen.{Tells}
+use Rattle.mvcc_engine.specs.views.Seen.{refusal_of, as_refusal}
 use Rattle.mvcc_engine.specs.Step as engine
 use Rattle.mvcc_engine.specs.Step.{Finished, step}
 use Rattle.script_text.specs.Grammar.{Age}

@@ -3,7 +3,8 @@ use Rattle.std.proofs.Common.{◌≡◌, refl, subst, Ok, ◌∙◌}
 use Rattle.std.proofs.lemmas.Result.{err_from_is_err_and}
 use Rattle.mvcc_key.specs.History.{Bytes}
 use Rattle.mvcc_key.specs.views.Seen.{time_of}
-use Rattle.mvcc_engine.specs.views.Seen.{Tells, refusal_of}
+use Rattle.write_rule.specs.views.Seen.{Tells}
+use Rattle.mvcc_engine.specs.views.Seen.{refusal_of}
 use Rattle.mvcc_engine.specs.Step as engine
 use Rattle.mvcc_engine.specs.Step.{Finished, step}
 use Rattle.script_text.specs.Grammar.{Put}
