@@ -29,6 +29,16 @@ use std::marker::Model;
 /// oldest (Pebble's memtable and sstables). Of each name the newest part counts, and the range operations of a part come after
 /// those of all older parts. The fragments that all of them give are kept beside the parts. Contracts see the store as the runs
 /// that its parts are, the memory table first.
+///
+/// ```text
+///                        memory table      runs, the newest first       shown
+/// apply(b=1, c=2)        b=1 c=2                                        b=1 c=2
+/// flush                                    [b=1 c=2]                    b=1 c=2
+/// apply(a=3, b cleared)  a=3 b cleared     [b=1 c=2]                    a=3 c=2
+/// apply(c=2)             a=3 b cleared     [b=1 c=2]                    a=3 c=2, as it was
+/// flush                                    [a=3 b cleared] [b=1 c=2]    a=3 c=2
+/// compact(1)                               [a=3 c=2]                    a=3 c=2
+/// ```
 #[derive(Drop)]
 pub struct Store {
     alloc: Global,

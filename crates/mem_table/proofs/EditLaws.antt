@@ -63,7 +63,7 @@ put_abbreviated_keys points (s ∷ ss) zero slot abbreviated number within is h 
     (ap₂ (λ (hs : List ℕ) (x : ℕ). insert hs slot x) h.0 is ∙ sym (map-insert (abbreviated_at points) s.numbers slot number), h.1)
 put_abbreviated_keys points (s ∷ ss) (suc i) slot abbreviated number within is h = (h.0, put_abbreviated_keys points ss i slot abbreviated number (omega arith) is h.1)
 
--- and the abbreviated_keys are still those of the entries
+-- and the abbreviated keys are still those of the entries
 pub put-abbreviated_keys : (points : List Point) (leaves new : List Slots) (i slot abbreviated number : ℕ) (s : Slots) → i < length leaves → s ≡ get_or leaves i s
     → new ≡ set leaves i (with_slot s slot abbreviated number) → abbreviated ≡ abbreviated_at points number → HaveAbbreviatedKeys points leaves → HaveAbbreviatedKeys points new
 put-abbreviated_keys points leaves new i slot abbreviated number s within read is abbreviated_is h =
@@ -135,7 +135,7 @@ split-numbers [] i = refl
 split-numbers (s ∷ ss) zero = sym (append_assoc (take half s.numbers) (drop half s.numbers) (numbers_in ss)) ∙ ap (λ (ns : List ℕ). ns ++ numbers_in ss) (take-append-drop half s.numbers)
 split-numbers (s ∷ ss) (suc i) = ap (λ (ns : List ℕ). s.numbers ++ ns) (split-numbers ss i)
 
--- the abbreviated_keys are still those of the entries
+-- the abbreviated keys are still those of the entries
 pub split-abbreviated_keys : (points : List Point) (leaves : List Slots) (i : ℕ) → HaveAbbreviatedKeys points leaves → HaveAbbreviatedKeys points (split_leaf leaves i)
 split-abbreviated_keys points [] i h = tt
 split-abbreviated_keys points (s ∷ ss) zero h =
@@ -166,7 +166,7 @@ split_firsts [] i within = absurd (omega arith)
 split_firsts (s ∷ ss) zero within = ap (λ (h : ℕ). h ∷ first_abbreviated (upper_half s) ∷ map first_abbreviated ss) (sym (first_of_lower s.abbreviated_keys))
 split_firsts (s ∷ ss) (suc i) within = ap (λ (hs : List ℕ). first_abbreviated s ∷ hs) (split_firsts ss i (omega arith))
 
--- and the first abbreviated_keys
+-- and the first abbreviated keys
 pub split-firsts : (leaves : List Slots) (firsts new : List ℕ) (i : ℕ) (s upper : Slots) → i < length leaves → s ≡ get_or leaves i s → upper ≡ upper_half s
     → firsts ≡ map first_abbreviated leaves → new ≡ insert firsts (i + 1) (first_abbreviated upper) → new ≡ map first_abbreviated (split_leaf leaves i)
 split-firsts leaves firsts new i s upper within read is_upper are is =

@@ -1,6 +1,5 @@
 -- Entries by their operations and by their points.
-use Rattle.std.proofs.Common.{◌≡◌, ℕ, List, [], ◌∷◌, ◌++◌, take, refl, sym, ap, subst, ◌∙◌}
-use Rattle.std.specs.Prelude.{Result, Ok, Err, OnOk, OnErr}
+use Rattle.std.proofs.Common.{◌≡◌, List, [], ◌∷◌, ◌++◌, refl, ap, ◌∙◌}
 use Rattle.std.specs.List.{AllByRecursion}
 use Rattle.std.specs.List.Sorted.{IsStrictlySortedBy}
 use Rattle.std.specs.declared.cmp.Ordering.{Ordering}
@@ -20,7 +19,7 @@ use Rattle.mvcc_key.proofs.PointLaws.{sorted-rising, rising-sorted}
 use Rattle.mvcc_key.proofs.EachLaws.{All-append, All-in_order}
 use Rattle.mvcc_key.specs.Batches.{IsStorable, AreEntries}
 use Rattle.mem_table.specs.views.Places.{name_of_op, op_cmp, newest_ops}
-use Rattle.mem_table.proofs.OrderedLaws.{each-take, each-front, sorted_take, sorted_front}
+use Rattle.mem_table.proofs.OrderedLaws.{each-front, sorted_front}
 
 -- the order of operations is total
 pub op_cmp-total : IsTotalOrder op_cmp
@@ -61,10 +60,6 @@ each-entries ops e = recursion_from_All IsStorable ops e.storable
 pub entries-sorted : (ops : List PointOp) → AllByRecursion IsStorable ops → IsStrictlySortedBy op_cmp ops → AreEntries ops
 entries-sorted ops each s = record { storable = All-from_recursion IsStorable ops each; rising = rising-sorted (points_of ops) (sorted_seen ops s) }
 
--- the front of entries
-pub entries-take : (n : ℕ) (ops : List PointOp) → AreEntries ops → AreEntries (take n ops)
-entries-take n ops e = entries-sorted (take n ops) (each-take IsStorable n ops (each-entries ops e)) (sorted_take op_cmp n ops (sorted-entries ops e))
-
 -- entries without their end
 pub entries-front : (ops others : List PointOp) → AreEntries (ops ++ others) → AreEntries ops
 entries-front ops others e =
@@ -74,11 +69,6 @@ entries-front ops others e =
 pub entries-one : (op : PointOp) → IsStorable op → AreEntries (op ∷ [])
 unfolding IsStrictlySortedBy
 entries-one op h = entries-sorted (op ∷ []) (h, tt) (tt, tt)
-
--- entries, whether they are the new ones or stay
-pub entries-either : {T E : Type 0} (r : Result T E) (now new old : List PointOp) → OnOk r (now ≡ new) → OnErr r (now ≡ old) → AreEntries new → AreEntries old → AreEntries now
-entries-either (Ok x) now new old ok err n o = subst AreEntries (sym ok) n
-entries-either (Err e) now new old ok err n o = subst AreEntries (sym err) o
 
 -- newer entries among older ones are entries
 pub entries-newest : (newer older : List PointOp) → AreEntries newer → AreEntries older → AreEntries (newest_ops newer older)

@@ -12,7 +12,7 @@ use Rattle.mvcc_key.proofs.OrderLaws.{name_cmp-total}
 use Rattle.mvcc_key.proofs.PointLaws.{point_cmp-total, sorted-rising}
 use Rattle.mem_table.specs.views.Places.{IsRangeBy}
 use Rattle.mem_table.proofs.OrderedLaws.{below_all, tied_all}
-use Rattle.mem_table.proofs.CountLaws.{count-nil, count-yes, count-no, count-none, behind-not}
+use Rattle.mem_table.proofs.CountLaws.{count-nil, count-yes, count-none, behind-not}
 
 -- a point under a name
 abbrev named : Name → Point

@@ -1,19 +1,9 @@
--- Looks of halving over abbreviated_keys alone.
+-- Looks of halving over abbreviated keys alone.
 use Rattle.std.proofs.Common.{◌≡◌, ◌≢◌, ℕ, ◌+◌, ◌-◌, ◌/◌, ◌<◌, ◌≤◌, Bool, true, false, cond, nat_lt, List, length, get_or, refl, sym, ap, subst, ◌∙◌, arith, inl, inr}
 use Rattle.std.proofs.lemmas.Bool.{ltb-true, ltb-false, cases_lt}
 use Rattle.mem_table.specs.views.Halves.{AreNotFalling, IsHalved}
 
--- at the start
-pub halved-first : (abbreviated_keys : List ℕ) (abbreviated base count : ℕ) → IsHalved abbreviated_keys abbreviated base count base count
-halved-first abbreviated_keys abbreviated base count = record {
-  from = omega arith;
-  upto = omega arith;
-  fewer = omega arith;
-  below = λ k le lt. absurd (omega arith);
-  above = λ k le lt. absurd (omega arith);
-}
-
--- a abbreviated in the middle that is below settles those up to it
+-- an abbreviated key in the middle that is below settles those up to it
 step-below : (abbreviated_keys : List ℕ) (abbreviated base count low left half : ℕ) → AreNotFalling abbreviated_keys → base + count ≤ length abbreviated_keys → IsHalved abbreviated_keys abbreviated base count low left → 0 < left
     → half ≡ left - left / 2 → get_or abbreviated_keys (low + half - 1) 0 < abbreviated → IsHalved abbreviated_keys abbreviated base count (low + half) (left - half)
 step-below abbreviated_keys abbreviated base count low left half rising within h some is lt = record {

@@ -1,12 +1,12 @@
 -- The operations that leaves hold, and their points.
-use Rattle.std.proofs.Common.{◌≡◌, ℕ, zero, suc, ◌+◌, ◌<◌, ◌≤◌, ◌^◌, List, [], ◌∷◌, ◌++◌, length, map, take, drop, get_or, refl, sym, ap, ap₂, subst, ◌∙◌, arith, inl, inr, append_assoc}
+use Rattle.std.proofs.Common.{◌≡◌, ℕ, zero, suc, ◌+◌, ◌<◌, ◌≤◌, List, [], ◌∷◌, ◌++◌, length, map, take, drop, get_or, refl, sym, ap, ap₂, subst, ◌∙◌, arith, inl, inr, append_assoc}
 use Rattle.std.specs.Prelude.{◌≢◌, slice_get, Some, None, All, insert}
 use Rattle.std.specs.declared.option.Option.{Option}
 use Rattle.std.specs.Option.{option_map, option_and_then}
 use Rattle.std.specs.List.{AllByRecursion}
 use Rattle.std.specs.declared.cmp.Ordering.TheVariants.{Equal}
 use Rattle.std.proofs.lemmas.Bool.{cases_order}
-use Rattle.std.proofs.lemmas.Option.{slice_get-map, slice_get-get_or, slice_get_within, get_or_from_slice_get}
+use Rattle.std.proofs.lemmas.Option.{slice_get-map, slice_get-get_or, get_or_from_slice_get}
 use Rattle.std.proofs.lemmas.List.{length-map, length-append}
 use Rattle.std.proofs.Math.Seq.{get_or-append_seam}
 use Rattle.std.proofs.lemmas.List.Elements.{recursion_from_All, All-weaker, All-append, All-cons, All-take, All-drop}
@@ -25,7 +25,7 @@ use Rattle.mvcc_key.proofs.SortedLaws.{in_order-same, in_order-sorted}
 use Rattle.mem_table.specs.views.Places.{op_cmp, newest_ops, no_op, listed, AreNumbersOf, IsStored, IsRangeBy}
 use Rattle.mem_table.specs.views.Entries.{no_point, entry_at, abbreviated_at, numbered, AreBytes}
 use Rattle.mem_table.specs.views.Slots.{Slots, numbers_in, keys_in, keys_of, HaveAbbreviatedKeys, IsIndexed}
-use Rattle.mem_table.specs.views.Gaps.{place_of, leaf_at, IsGap}
+use Rattle.mem_table.specs.views.Gaps.{place_of, IsGap}
 use Rattle.mem_table.proofs.OrderedLaws.{each-at, each-front, each-last}
 use Rattle.mem_table.proofs.NumberLaws.{each-back}
 use Rattle.mem_table.proofs.StartLaws.{place-le, count-put}

@@ -2,7 +2,6 @@ pub mod OrderedLaws
 pub mod EntryLaws
 pub mod RangeLaws
 pub mod PlaceLaws
-pub mod StepLaws
 pub mod StateLaws
 pub mod TableLaws
 pub mod NumberLaws

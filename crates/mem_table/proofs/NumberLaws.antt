@@ -1,11 +1,7 @@
 -- Lists of numbers that are apart, and one more among them.
-use Rattle.std.proofs.Common.{◌≡◌, ℕ, ◌-◌, ◌<◌, ◌≤◌, List, [], ◌∷◌, ◌++◌, length, take, drop, sym, ap, ◌∙◌, arith}
-use Rattle.std.specs.Prelude.{◌≢◌, slice_get, slice_range, Some}
+use Rattle.std.proofs.Common.{◌≡◌, ℕ, ◌<◌, ◌≤◌, List, [], ◌∷◌, ◌++◌, sym, arith}
+use Rattle.std.specs.Prelude.{◌≢◌}
 use Rattle.std.specs.List.{AllByRecursion}
-use Rattle.std.proofs.Math.Seq.{drop-cons, get_or-take}
-use Rattle.std.proofs.lemmas.List.{take-append-drop, take-take, drop-drop, length-take-le}
-use Rattle.std.proofs.lemmas.Option.{get_or_from_slice_get}
-use Rattle.std.proofs.lemmas.Slice.{between_is}
 
 -- no number stands twice
 unfoldable pub AreApart : List ℕ → Type 0
@@ -79,21 +75,3 @@ among-new xs ys number old bound le is lt below apart =
     }
 
 -- ---- the parts of an order
-
--- the front is what is before `low`, what is from there up to `behind`, and what is from there on
-pub front-parts : (xs : List ℕ) (low behind high : ℕ) → low ≤ behind → behind ≤ high
-    → take high xs ≡ take low xs ++ (take (behind - low) (drop low (take high xs)) ++ slice_range xs behind high)
-front-parts xs low behind high ordered within =
-    let front : List ℕ = take high xs in
-    let first : take low front ≡ take low xs = take-take low high xs (omega arith) in
-    let last : drop (behind - low) (drop low front) ≡ slice_range xs behind high =
-    drop-drop (behind - low) low front ∙ ap (λ (n : ℕ). drop n front) (omega arith) ∙ sym (between_is xs behind high) in
-    sym (take-append-drop low front) ∙ ap (λ (us : List ℕ). us ++ drop low front) first
-    ∙ ap (λ (us : List ℕ). take low xs ++ us) (sym (take-append-drop (behind - low) (drop low front)) ∙ ap (λ (us : List ℕ). take (behind - low) (drop low front) ++ us) last)
-
--- the one at a place
-pub middle-one : (xs : List ℕ) (low high number : ℕ) → low < high → high ≤ length xs → slice_get xs low ≡ Some number → take 1 (drop low (take high xs)) ≡ number ∷ []
-middle-one xs low high number lt fits is =
-    let long : length (take high xs) ≡ high = length-take-le high xs fits in
-    ap (take 1) (drop-cons (take high xs) low number (omega arith))
-    ∙ ap (λ (n : ℕ). n ∷ []) (get_or-take high xs low number lt ∙ get_or_from_slice_get xs low number number is)

@@ -24,11 +24,11 @@ mapped-at f [] i within = absurd (omega arith)
 mapped-at f (x ∷ xs) zero within = refl
 mapped-at f (x ∷ xs) (suc i) within = mapped-at f xs i (omega arith)
 
--- the abbreviated at a place is the entry's
+-- the abbreviated key at a place is the entry's
 pub abbreviated-at : (points : List Point) (abbreviated_keys numbers : List ℕ) (i : ℕ) → IsIndex points abbreviated_keys numbers → i < length numbers → get_or abbreviated_keys i 0 ≡ abbreviated_at points (get_or numbers i 0)
 abbreviated-at points abbreviated_keys numbers i index within = ap (λ (hs : List ℕ). get_or hs i 0) index.abbreviated_keys_are ∙ mapped-at (abbreviated_at points) numbers i within
 
--- there are as many abbreviated_keys as numbers
+-- there are as many abbreviated keys as numbers
 pub length-abbreviated_keys : (points : List Point) (abbreviated_keys numbers : List ℕ) → IsIndex points abbreviated_keys numbers → length abbreviated_keys ≡ length numbers
 length-abbreviated_keys points abbreviated_keys numbers index = ap length index.abbreviated_keys_are ∙ length-map numbers _
 

@@ -5,7 +5,7 @@ use Rattle.std.specs.declared.option.Option.{Option}
 use Rattle.std.specs.Option.{option_map, option_and_then}
 use Rattle.std.specs.List.{AllByRecursion}
 use Rattle.std.specs.declared.cmp.Ordering.{Ordering}
-use Rattle.std.specs.declared.cmp.Ordering.TheVariants.{Less, Equal, Greater}
+use Rattle.std.specs.declared.cmp.Ordering.TheVariants.{Less, Greater}
 use Rattle.std.specs.Ordering.{is_eq, ordering_reverse}
 use Rattle.std.proofs.lemmas.Cmp.{tied_back}
 use Rattle.std.proofs.lemmas.List.{length-map, take-map, drop-map}
@@ -20,32 +20,9 @@ use Rattle.mem_table.specs.Table.{state_of}
 
 -- ---- the range of a name among operations and among their points
 
-each_seen : (P : Point → Type 0) (ops : List PointOp) → AllByRecursion (λ op. P (point_of op)) ops → AllByRecursion P (points_of ops)
-each_seen P [] h = tt
-each_seen P (op ∷ ops) h = (h.0, each_seen P ops h.1)
-
 seen_each : (P : Point → Type 0) (ops : List PointOp) → AllByRecursion P (points_of ops) → AllByRecursion (λ op. P (point_of op)) ops
 seen_each P [] h = tt
 seen_each P (op ∷ ops) h = (h.0, seen_each P ops h.1)
-
-seen_at : (P : Point → Type 0) (ops : List PointOp) (i : ℕ) → ((op : PointOp) → slice_get ops i ≡ Some op → P (point_of op))
-    → (p : Point) → slice_get (points_of ops) i ≡ Some p → P p
-seen_at P [] i h p is = absurd cc
-seen_at P (op ∷ ops) zero h p is = (let same : point_of op ≡ p = cc in subst P same (h op refl))
-seen_at P (op ∷ ops) (suc i) h p is = seen_at P ops i h p is
-
--- the points of a range of operations
-pub range-seen : (name : Name) (ops : List PointOp) (low high : ℕ) → IsRangeOf name ops low high → IsRangeBy Point (λ p. p.name) name (points_of ops) low high
-range-seen name ops low high r = record {
-  ordered = r.ordered;
-  one = r.one;
-  within = (let w = r.within in omega (arith, length-map ops point_of));
-  below = subst (AllByRecursion (λ (p : Point). name_cmp p.name name ≡ Less)) (sym (take-map point_of low ops))
-      (each_seen (λ p. name_cmp p.name name ≡ Less) (take low ops) r.below);
-  tied = λ some. seen_at (λ p. name_cmp name p.name ≡ Equal) ops low (r.tied some);
-  above = subst (AllByRecursion (λ (p : Point). name_cmp name p.name ≡ Less)) (sym (drop-map point_of high ops))
-      (each_seen (λ p. name_cmp name p.name ≡ Less) (drop high ops) r.above);
-}
 
 -- the operations of a range of points
 pub seen-range : (name : Name) (ops : List PointOp) (low high : ℕ) → IsRangeBy Point (λ p. p.name) name (points_of ops) low high → IsRangeOf name ops low high

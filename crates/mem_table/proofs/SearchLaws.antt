@@ -15,7 +15,7 @@ use Rattle.mem_table.specs.views.Entries.{no_point, entry_at, numbered, IsIndex}
 use Rattle.mem_table.specs.views.Halves.{AreNotFalling, IsHalved}
 use Rattle.mem_table.proofs.NumberedLaws.{numbered-at, abbreviated-at, length-abbreviated_keys, length-numbered}
 
--- the abbreviated beside a number is its entry's
+-- the abbreviated key beside a number is its entry's
 entry-abbreviated : (points : List Point) (abbreviated_keys numbers : List ℕ) (i : ℕ) → ((n : ℕ) (p : Point) → slice_get points n ≡ Some p → IsBytes p.name.key) → IsIndex points abbreviated_keys numbers
     → i < length numbers → IsAbbreviatedKey (entry_at points (get_or numbers i 0)).name.key (get_or abbreviated_keys i 0)
 entry-abbreviated points abbreviated_keys numbers i bytes index within = record {
@@ -23,7 +23,7 @@ entry-abbreviated points abbreviated_keys numbers i bytes index within = record 
   bytes = bytes (get_or numbers i 0) (entry_at points (get_or numbers i 0)) (slice_get-get_or points (get_or numbers i 0) no_point (index.known i 0 within));
 }
 
--- where names rise, abbreviated_keys do not fall
+-- where names rise, abbreviated keys do not fall
 pub abbreviated_keys-rise : (points : List Point) (abbreviated_keys numbers : List ℕ) → ((n : ℕ) (p : Point) → slice_get points n ≡ Some p → IsBytes p.name.key) → IsIndex points abbreviated_keys numbers → AreNotFalling abbreviated_keys
 abbreviated_keys-rise points abbreviated_keys numbers bytes index i j le within =
     elim (cases_order i j) [
@@ -48,7 +48,7 @@ abbreviated_keys-rise points abbreviated_keys numbers bytes index i j le within 
           | inr more ↦ more
         ]
 
--- what abbreviated_keys alone settle
+-- what abbreviated keys alone settle
 pub narrowed-halved : (name : Name) (points : List Point) (abbreviated_keys numbers : List ℕ) (abbreviated base count low left : ℕ)
     → ((n : ℕ) (p : Point) → slice_get points n ≡ Some p → IsBytes p.name.key) → IsIndex points abbreviated_keys numbers → IsAbbreviatedKey name.key abbreviated
     → IsNarrowed name (numbered points numbers) base (base + count) → IsHalved abbreviated_keys abbreviated base count low left → IsNarrowed name (numbered points numbers) low (low + left)

@@ -69,7 +69,7 @@ first-abbreviated_keys points (s ∷ ss) are h =
     let first : first_abbreviated s ≡ abbreviated_at points (first_number s) = ap (λ (hs : List ℕ). get_or hs 0 0) h.0 ∙ mapped-at (abbreviated_at points) s.numbers 0 (omega arith) in
     ap₂ (λ (x : ℕ) (xs : List ℕ). x ∷ xs) first (first-abbreviated_keys points ss are.1 h.1)
 
--- the first abbreviated_keys and the first numbers are an index too
+-- the first abbreviated keys and the first numbers are an index too
 pub firsts-index : (points : List Point) (leaves : List Slots) → AreLeaves leaves → IsIndexed points leaves → IsIndex points (map first_abbreviated leaves) (map first_number leaves)
 firsts-index points leaves are indexed = record {
   known = All-from_recursion (λ (n : ℕ). n < length points) (map first_number leaves)

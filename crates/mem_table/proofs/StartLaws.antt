@@ -6,7 +6,7 @@ use Rattle.std.specs.List.{AllByRecursion}
 use Rattle.std.proofs.lemmas.List.{length-append, length-take-le, length-drop, get_or_default}
 use Rattle.std.proofs.lemmas.List.Folds.{length-flat_map-take}
 use Rattle.std.proofs.lemmas.List.Edits.{length-insert}
-use Rattle.mem_table.specs.views.Slots.{Slots, no_slots, IsEmptyLeaf, half, most, AreLeaves, with_slot, lower_half, upper_half, split_leaf, numbers_in, starts_from}
+use Rattle.mem_table.specs.views.Slots.{Slots, no_slots, IsEmptyLeaf, half, most, AreLeaves, with_slot, split_leaf, numbers_in, starts_from}
 use Rattle.mem_table.specs.views.Gaps.{leaf_at, place_of}
 use Rattle.mem_table.proofs.LeafLaws.{leaf-at}
 use Rattle.mem_table.proofs.NumberLaws.{each-weaker}

@@ -1,6 +1,6 @@
 -- The items of a key, by its committed versions and the tombstones over it.
 use Rattle.std.proofs.Common.{◌≡◌, Bool, true, false, cond, List, [], ◌∷◌, refl, sym, ap, subst, ◌∙◌}
-use Rattle.std.specs.Prelude.{◌&&◌, map, filter, find, not, Some, None}
+use Rattle.std.specs.Prelude.{map, filter, find, Some, None}
 use Rattle.std.specs.declared.option.Option.{Option}
 use Rattle.std.specs.Option.{option_map}
 use Rattle.std.specs.List.{AllByRecursion}
@@ -10,7 +10,7 @@ use Rattle.std.specs.declared.cmp.Ordering.TheVariants.{Less, Equal, Greater}
 use Rattle.std.specs.Ordering.{is_eq}
 use Rattle.std.proofs.lemmas.List.Kept.{IsStrictlySortedBy-filter}
 use Rattle.mvcc_key.specs.Lists.{first}
-use Rattle.mvcc_key.specs.Order.{Timestamp, newer_first, is_before, is_same_time, is_no_time, is_in_range, Key, is_same_key}
+use Rattle.mvcc_key.specs.Order.{Timestamp, newer_first, is_before, is_same_time, is_no_time, Key, is_same_key}
 use Rattle.mvcc_key.specs.History.{Version, version_cmp, History, versions_of}
 use Rattle.mvcc_key.specs.Items.{Item, item_cmp, version_item, tombstone_item, tombstones_over, items, covers}
 use Rattle.mvcc_key.specs.Fragments.{Fragment, stack_at}
@@ -21,7 +21,7 @@ use Rattle.mvcc_key.proofs.SortedLaws.{in_order-sorted}
 use Rattle.mvcc_key.proofs.StackChangeLaws.{newer_first-IsAntisymmetric}
 use Rattle.mvcc_key.proofs.StackLaws.{stack_at-fragments, same_key_is}
 use Rattle.mvcc_key.proofs.FragmentLaws.{is_same_time-equiv}
-use Rattle.intent_meta.specs.Valid.{HasOwnTime, IsValid, IsStoredVersion}
+use Rattle.intent_meta.specs.Valid.{HasOwnTime}
 use Rattle.intent_meta.specs.views.Lent.{lent_item, item_times}
 use Rattle.intent_meta.proofs.ChangedLaws.{own_times-stack}
 use Rattle.intent_meta.proofs.KeyPairsLaws.{own_versions}
@@ -65,21 +65,6 @@ apart-version v (t ∷ ts) own = (by (newer_first v.ts t) refl, apart-version v 
         let f : is_same_time t v.ts ≡ true = ap (is_same_time t) same ∙ same-itself t in
         let none = own.0 in
         absurd cc)
-
--- the committed versions at a place are items in order, with timestamps in range
-pub committed-sorted : (h : History) → IsValid h → (at : Place) → IsStrictlySortedBy item_cmp (map version_item (committed_at at h))
-unfolding IsStrictlySortedBy
-committed-sorted h valid BeforeFirst = tt
-committed-sorted h valid PastLast = tt
-committed-sorted h valid (AtKey key) = sorted-versions key (versions_of key h) (IsStrictlySortedBy-filter version_cmp (λ v. is_same_key v.key key) h.versions valid.versions_in_order) (own_versions h key valid)
-
-pub stored-range : (vs : List Version) → AllByRecursion IsStoredVersion vs → AllByRecursion (λ (j : Item). is_in_range j.ts ≡ true) (map version_item vs)
-stored-range [] all = tt
-stored-range (v ∷ vs) all = (second (not (is_no_time v.ts)) (is_in_range v.ts) all.0.ts, stored-range vs all.1)
-  where
-    second : (a b : Bool) → (a && b) ≡ true → b ≡ true
-    second true b e = e
-    second false b e = cc
 
 -- so the items of a key that pass a test begin with the newer of the first version and the first tombstone that do
 module _ (h : History) (points : List _) (fs : List Fragment) (of : IsOfHistory h points fs) where

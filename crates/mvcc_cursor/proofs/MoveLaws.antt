@@ -118,10 +118,6 @@ module _ (points : List Point) (place : ℕ) (sought : List ℕ) (named : sought
       by None at = none-key at
       by (Some p) at = (let e : Before ≡ At = sym there ∙ is ∙ ap (λ (b : Bool). cond b At Before) (found ∙ ap is_some at) in absurd cc)
 
-  pub past-empty : (stand : Stand) (stored : Bool) → stand ≡ cond stored At Past → stand ≡ Before → key_under sought ≡ []
-  past-empty stand true is there = (let e : Before ≡ At = sym there ∙ is in absurd cc)
-  past-empty stand false is there = (let e : Before ≡ Past = sym there ∙ is in absurd cc)
-
   -- where the place was found from a key, the point is the first of its key
   module _ (rising : IsRising points) (key : Key) (at : place ≡ before key points + 1) where
     pub there-stands : (stored : Bool) → stored ≡ is_some (point_at points place) → stored ≡ true → place ≡ before_key sought points + 1

@@ -22,7 +22,7 @@ use Rattle.intent_meta.specs.KeyPairs.{key_pairs}
 use Rattle.intent_meta.specs.PointPairs.{set_point}
 use Rattle.intent_meta.specs.Valid.{IsStoredVersion}
 use Rattle.intent_meta.specs.views.WholeKeys.{IsWholeItem}
-use Rattle.intent_meta.specs.views.Lent.{LentItem, lent_item, item_times}
+use Rattle.intent_meta.specs.views.Lent.{lent_item}
 use Rattle.intent_meta.specs.views.Listed.{known_value}
 use Rattle.intent_meta.proofs.ChangedLaws.{intent_of-stored}
 use Rattle.intent_meta.proofs.KeyHistoryLaws.{whole_item-read}
@@ -286,14 +286,6 @@ seeks-none ts None is = refl
 seeks-none ts (Some v) is = cc
 
 module _ (ts : Timestamp) (vs : List Version) (all : AllByRecursion IsStoredVersion vs) where
-  -- no version is
-  pub up_to-none : None ≡ option_map lent_version (first vs) → None ≡ option_map lent_item (find (λ i. is_up_to i.ts ts) (map version_item vs))
-  up_to-none is = by vs is
-    where
-      by : (ws : List Version) → None ≡ option_map lent_version (first ws) → None ≡ option_map lent_item (find (λ i. is_up_to i.ts ts) (map version_item ws))
-      by [] e = refl
-      by (w ∷ ws) e = cc
-
   -- the newest is
   pub up_to-newest : (l : LentVersion) → Some l ≡ option_map lent_version (first vs) → is_up_to l.ts ts ≡ true → Some (item_in l) ≡ option_map lent_item (find (λ i. is_up_to i.ts ts) (map version_item vs))
   up_to-newest l is up = by vs all is
@@ -353,8 +345,3 @@ sought-item h points fs of set rising stand sought stored place ts l found is ne
     ap (λ o. option_map item_in (option_map version_in o)) (found-version sought points rising ts place stand stored some found (λ _. at (seeks-true ts l (first (committed_at (place_in stand sought) h)) is newer some)))
     ∙ ap (option_map item_in) (committed-seek h points fs of set (place_in stand sought) ts there.0 there.1 older)
     ∙ sym (items-lent (λ i. is_up_to i.ts ts) (committed_at (place_in stand sought) h) (stored-at h points fs of set (place_in stand sought))))
-
--- the timestamps of an item that is lent
-pub times-lent : (l : LentItem) (o : Option Item) → Some l ≡ option_map lent_item o → Some (l.ts, cond (is_no_time l.local) l.ts l.local) ≡ option_map item_times o
-times-lent l None is = cc
-times-lent l (Some i) is = (let e : l ≡ lent_item i = cc in ap (λ (m : LentItem). Some (m.ts, cond (is_no_time m.local) m.ts m.local)) e)

@@ -1,19 +1,19 @@
 -- One command: its answer, and the state after it.
-use Rattle.std.specs.Prelude.{ℕ, max, List, ◌++◌, map, fold, Bool, false, Option, Some, None, Result, Ok, Err, nat_lt}
+use Rattle.std.specs.Prelude.{ℕ, List, false, Option, Some, None, Result, Ok, Err, nat_lt}
 use Rattle.mvcc_key.specs.Steps.{◌>>=◌, unless_fault}
 use Rattle.mvcc_key.specs.Order.{Timestamp, no_time, Key}
-use Rattle.mvcc_key.specs.History.{Body, History, Changed, empty_history}
+use Rattle.mvcc_key.specs.History.{History, Changed, empty_history}
 use Rattle.mvcc_key.specs.Fragments.{fragments}
 use Rattle.mvcc_key.specs.Field.{Field}
 use Rattle.mvcc_key.specs.Refusal.{Refusal, MomentTooEarly, CountOverflow}
 use Rattle.mvcc_value.specs.Found.{Found}
 use Rattle.intent_meta.specs.StoredPairs.{stored_pairs}
 use Rattle.stat_core.specs.ComputeStats.{Sums, compute_stats, overflowing}
+use Rattle.stat_delta.specs.Moments.{stored_walls, greatest}
 use Rattle.lsm_store.specs.Parts.{Part, Stage, first_parts, after_batch, flushed, compacted, PartShape, layout}
 use Rattle.txn_state.specs.Transaction.{At}
 use Rattle.read_rule.specs.Read.{ReadRequest, get}
-use Rattle.write_rule.specs.Write as rule
-use Rattle.write_rule.specs.Write.{WriteKind, WriteRequest, WriteAnswer, write}
+use Rattle.write_rule.specs.Write.{WriteRequest, WriteAnswer, write}
 
 -- the history, the latest moment that was stored or aged to, the bound on each of the statistics, and what each part names
 pub record State : Type 0 where
@@ -28,8 +28,7 @@ first_state count_max = record { history = empty_history; last = 0; count_max = 
 
 -- what can be asked
 pub data Command : Type 0 where
-  Put : (key : Key) (ts : Timestamp) (value : Body) → Command
-  Delete : (key : Key) (ts : Timestamp) → Command
+  Write : (key : Key) (request : WriteRequest) → Command
   Age : (now : ℕ) → Command
   Flush : Command
   Compact : (keep : ℕ) → Command
@@ -40,7 +39,7 @@ pub data Command : Type 0 where
 -- what is answered
 pub data Reply : Type 0 where
   Finished : Reply
-  WasThere : (there : Bool) → Reply
+  Wrote : (answer : WriteAnswer) → Reply
   Got : (found : Option Found) → Reply
   Statistics : (sums : Sums) (now : ℕ) → Reply
   Parts : (shapes : List PartShape) → Reply
@@ -57,15 +56,6 @@ stage h = record { pairs = stored_pairs h; fragments = fragments h.tombstones }
 -- the statistics of the whole history at a moment
 unfoldable pub statistics : ℕ → History → Sums
 statistics now h = compute_stats now (stored_pairs h) (fragments h.tombstones)
-
--- the wall times at which something is stored
-abbrev pub stored_walls : History → List ℕ
-stored_walls h =
-    map (λ v. v.ts.wall) h.versions ++ map (λ i. i.ts.wall) h.intents ++ map (λ t. t.ts.wall) h.tombstones
-
--- the greatest of a number and a list
-abbrev pub greatest : ℕ → List ℕ → ℕ
-greatest n walls = fold max n walls
 
 -- goes on where no statistic passes the bound
 abbrev pub unless_overflow : {A : Type 0} → Option Field → A → Result A Refusal
@@ -93,16 +83,6 @@ read_at ts = record {
   options = record { local_limit = no_time; inconsistent = false; fail_more_recent = false };
 }
 
--- a write at a timestamp, outside transactions, with no local timestamp
-abbrev pub write_at : Timestamp → WriteKind → WriteRequest
-write_at ts kind = record { who = At ts; kind = kind; local = no_time }
-
--- what a deletion is answered
-abbrev pub deleted : WriteAnswer → Reply
-deleted rule.Done = Finished
-deleted (rule.WasThere there) = WasThere there
-deleted (rule.Number number) = Finished
-
 -- the state after a write, or why it is refused: its moment is the latest of those that it had and of all that are stored
 abbrev pub change : {A : Type 0} → State → (A → Reply) → Result (Changed A) Refusal → Result Stepped Refusal
 change s reply written = do
@@ -123,8 +103,7 @@ age_to s now = do
 
 -- the answer to a command and the state after it, or why it is refused; a refused command leaves the state
 unfoldable pub step : State → Command → Result Stepped Refusal
-step s (Put key ts value) = change s (λ done. Finished) (write s.history key (write_at ts (rule.Put value)))
-step s (Delete key ts) = change s deleted (write s.history key (write_at ts rule.Delete))
+step s (Write key request) = change s Wrote (write s.history key request)
 step s (Age now) = age_to s now
 step s Flush = Ok (record { state = record s { parts = flushed s.parts }; reply = Finished })
 step s (Compact keep) = Ok (record { state = record s { parts = compacted keep s.parts }; reply = Finished })

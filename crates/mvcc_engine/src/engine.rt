@@ -1,55 +1,59 @@
 //! The engine: writes and reads of keys, and the running statistics of what is stored.
 //!
 //! ```text
-//! put_at  a@1=x     a@1=x           live_count=1
-//! put_at  a@3=z     a@3=z a@1=x     live_count=1, and a@1 is garbage since 3
-//! delete_at a@5     a@5 a@3=z a@1=x live_count=0, and all is garbage
-//! get_at  a@4       a@3=z
+//! put     a@1=x         a@1=x                 live_count=1
+//! put     a@3=z         a@3=z a@1=x           live_count=1, and a@1 is garbage since 3
+//! put     a@7=y in t    a:t a@7=y a@3=z a@1=x intent_count=1, and a@3 is garbage since 7
+//! get_at  a@9           conflict with the intent of t
+//! get_at  a@4           a@3=z
 //! ```
-ghost use Rattle.std.specs.Prelude.{◌≡◌, ◌≤◌, ◌<◌, ◌^◌, Bool, [], map, IfOk, MatchResult, Ok};
+ghost use Rattle.std.specs.Prelude.{◌≡◌, ◌≤◌, ◌<◌, ◌^◌, ◌+◌, map, IfOk};
 ghost use Rattle.std.specs.Option.{option_map};
 ghost use Rattle.mvcc_key.specs.views.Seen.{time_of};
-ghost use Rattle.mvcc_value.specs.views.Seen.{found_of, plain_body, seen_body};
-ghost use Rattle.write_rule.specs.views.Seen.{Tells};
+ghost use Rattle.mvcc_value.specs.views.Seen.{found_of, plain_body};
+ghost use Rattle.txn_state.specs.views.Seen.{actor_of};
+ghost use Rattle.write_rule.specs.Write as rule;
+ghost use Rattle.write_rule.specs.Write.{Done, Number, WasThere};
+ghost use Rattle.write_rule.specs.views.Seen.{answer_of, request_of};
 ghost use Rattle.lsm_store.specs.Parts.{layout};
 ghost use Rattle.lsm_store.specs.views.Seen.{seen_shape};
-ghost use Rattle.mvcc_engine.specs.views.Outside.{write};
-ghost use Rattle.mvcc_engine.specs.Step.{Put, Delete, Age, Flush, Compact, Get, Reply, Finished, WasThere, Got, change, first_state, statistics, step};
-ghost use Rattle.mvcc_engine.specs.views.Seen.{Answers, AnswersAge, AnswersUnlessFull, refusal_of};
-ghost use Rattle.mvcc_engine.specs.views.Plan.{IsPlanned};
+ghost use Rattle.mvcc_engine.specs.Step.{Age, Compact, Finished, Flush, Get, Got, Write, Wrote, first_state, statistics, step};
+ghost use Rattle.mvcc_engine.specs.Looks.{looks_at};
+ghost use Rattle.mvcc_engine.specs.views.Seen.{Answers, AnswersAge, AnswersRead, AnswersUnlessFull, IsAnswerTo};
 
-use crate::change::change_of;
-use crate::plan::{Planned, check, is_value, past};
+use crate::answer::{number_in, was_there};
+use crate::reading::get;
 use crate::refusal::{AgeFault, Refusal};
-use crate::version::StoredVersion;
-use crate::versions::Versions;
-use lsm_store::PartShape;
-use mvcc_key::{OutOfMemory, Timestamp, encode_key, record_key};
-use mvcc_value::{Body, Found, PlainValue};
+use lsm_store::{PartShape, Store};
+use mvcc_key::{Looks, OutOfMemory, Timestamp};
+use mvcc_put::plan_put;
+use mvcc_value::{Found, PlainValue};
 use stat_core::Stats;
 use std::alloc::Global;
-use std::cmp::max;
 use std::marker::Model;
+use std::sync::ledger::Ledger;
+use txn_state::Actor;
+use write_rule::{WriteAnswer, WriteKind, WriteRequest};
 
-/// Every version of every key, and the statistics that a recount of them gives. Contracts see it as the state of the
-/// definitions: the history, the latest moment that was stored or aged to, and the bound on each of the statistics.
+/// Every version and every intent of every key, and the statistics that a recount of them gives. Contracts see it as the state of
+/// the definitions: the history, the latest moment that was stored or aged to, the bound on each of the statistics, and what each
+/// part of the store names.
 #[derive(Drop)]
 pub struct Engine {
     alloc: Global,
-    versions: Versions,
+    store: Store,
     stats: Stats,
 }
 
 impl Model for Engine {
     ghost use Rattle.mvcc_engine.specs.Step.{State};
-    ghost use Rattle.mvcc_engine.specs.views.Places.{history_of};
-    ghost use Rattle.mvcc_engine.specs.views.Kept.{IsCounted};
+    ghost use Rattle.mvcc_engine.specs.views.Sound.{IsSound, state_of};
 
     ghost Value = { State };
 
-    ghost view = { λ e. record { history = history_of e.versions.versions; last = e.stats.last; count_max = e.stats.count_max; parts = e.versions.parts } };
+    ghost view = { λ e. state_of e.store e.stats };
 
-    ghost invariant = { λ e. IsCounted e.versions.versions e.stats };
+    ghost invariant = { λ e. IsSound e.store e.stats };
 }
 
 impl Engine {
@@ -61,39 +65,117 @@ impl Engine {
     {
         Engine {
             alloc,
-            versions: Versions::new(alloc),
+            store: Store::new(alloc),
             stats: Stats::new(count_max),
         }
     }
 
-    /// Puts a version of the key (CockroachDB `MVCCPut` outside of a transaction). It is refused with the first of
-    /// [`Refusal::EmptyKey`], [`Refusal::KeyTooLong`], [`Refusal::ValueTooLong`], [`Refusal::BadTimestamp`], [`Refusal::TooOld`] and
-    /// [`Refusal::CountOverflow`] that applies.
-    pub fn put_at(
+    /// Puts a value of the key (CockroachDB `MVCCPut`): outside transactions a version at the timestamp, and in one its intent. A
+    /// local timestamp is kept only where it is below that of the value; [`Timestamp::NONE`] is none. It is refused with the
+    /// first of these that applies, in this order: [`Refusal::EmptyKey`], [`Refusal::KeyTooLong`], [`Refusal::ValueTooLong`],
+    /// [`Refusal::BadTimestamp`], [`Refusal::Conflict`], [`Refusal::EpochFault`], [`Refusal::ReplayMissing`],
+    /// [`Refusal::ReplayMismatch`], [`Refusal::TooOld`], [`Refusal::IntentTooLong`], [`Refusal::CountOverflow`].
+    pub fn put<L: Ledger>(
         &mut self,
+        who: Actor<'_>,
         key: &[u8],
         value: PlainValue<'_>,
-        ts: Timestamp,
+        local: Timestamp,
+        looks: &mut Looks<L>,
     ) -> Result<(), Refusal>
-        ensures { Answers result (λ done. Finished) self.old self.new (step self.old (Put key.now (time_of ts) (plain_body value.entry))) }
+        ensures answers { Answers result (λ done. Wrote Done) self.old self.new
+            (step self.old (Write key.now (record { who = actor_of who.entry; kind = rule.Put (plain_body value.entry); local = time_of local }))) }
+        ensures looks { looks.new ≤ looks.old + looks_at self.old key.now }
     {
-        self.write(key, Body::from(value), ts)?;
+        let kind = WriteKind::Put(value);
+        self.write(key, &WriteRequest { who, kind, local }, looks)?;
         Ok(())
     }
 
-    /// Puts a deletion of the key (CockroachDB `MVCCDelete` outside of a transaction), also where nothing was there, and answers
-    /// whether a value was. It is refused as [`Engine::put_at`] is.
-    pub fn delete_at(&mut self, key: &[u8], ts: Timestamp) -> Result<bool, Refusal>
-        ensures { Answers result WasThere self.old self.new (step self.old (Delete key.now (time_of ts))) }
+    /// Puts a deletion of the key (CockroachDB `MVCCDelete`), also where nothing was there, and answers whether a value was. It is
+    /// refused as [`Engine::put`] is, but for the value's length.
+    pub fn delete<L: Ledger>(
+        &mut self,
+        who: Actor<'_>,
+        key: &[u8],
+        local: Timestamp,
+        looks: &mut Looks<L>,
+    ) -> Result<bool, Refusal>
+        ensures answers { Answers result (λ there. Wrote (WasThere there)) self.old self.new
+            (step self.old (Write key.now (record { who = actor_of who.entry; kind = rule.Delete; local = time_of local }))) }
+        ensures looks { looks.new ≤ looks.old + looks_at self.old key.now }
     {
-        self.write(key, Body::Deletion, ts)
+        let kind = WriteKind::Delete;
+        let answer = self.write(key, &WriteRequest { who, kind, local }, looks)?;
+        Ok(was_there(answer))
     }
 
-    /// The newest version of the key that is not newer than the timestamp, where it is no deletion (CockroachDB `MVCCGet`).
-    pub fn get_at(&self, key: &[u8], ts: Timestamp) -> Result<Option<Found>, OutOfMemory>
-        ensures { IfOk result (λ found. step self.now (Get key.now (time_of ts)) ≡ Ok (record { state = self.now; reply = Got (option_map found_of found) })) }
+    /// Puts a value where the value before is the expected one, or none is there and none is expected (CockroachDB
+    /// `MVCCConditionalPut`). It is refused as [`Engine::put`] is, with [`Refusal::ConditionFailed`] behind [`Refusal::TooOld`].
+    pub fn conditional_put<L: Ledger>(
+        &mut self,
+        who: Actor<'_>,
+        key: &[u8],
+        value: PlainValue<'_>,
+        expected: Option<PlainValue<'_>>,
+        local: Timestamp,
+        looks: &mut Looks<L>,
+    ) -> Result<(), Refusal>
+        ensures answers { Answers result (λ done. Wrote Done) self.old self.new
+            (step self.old (Write key.now (record { who = actor_of who.entry; kind = rule.ConditionalPut (plain_body value.entry) (option_map plain_body expected.entry); local = time_of local }))) }
+        ensures looks { looks.new ≤ looks.old + looks_at self.old key.now }
     {
-        self.versions.row_at(key, ts)
+        let kind = WriteKind::ConditionalPut(value, expected);
+        self.write(key, &WriteRequest { who, kind, local }, looks)?;
+        Ok(())
+    }
+
+    /// Puts a value where none is there or this one is (CockroachDB `MVCCInitPut`). It is refused as
+    /// [`Engine::conditional_put`] is.
+    pub fn init_put<L: Ledger>(
+        &mut self,
+        who: Actor<'_>,
+        key: &[u8],
+        value: PlainValue<'_>,
+        local: Timestamp,
+        looks: &mut Looks<L>,
+    ) -> Result<(), Refusal>
+        ensures answers { Answers result (λ done. Wrote Done) self.old self.new
+            (step self.old (Write key.now (record { who = actor_of who.entry; kind = rule.InitPut (plain_body value.entry); local = time_of local }))) }
+        ensures looks { looks.new ≤ looks.old + looks_at self.old key.now }
+    {
+        let kind = WriteKind::InitPut(value);
+        self.write(key, &WriteRequest { who, kind, local }, looks)?;
+        Ok(())
+    }
+
+    /// Puts the number that is the value before and this one together, where none is there this one alone, and answers it
+    /// (CockroachDB `MVCCIncrement`). It is refused as [`Engine::delete`] is, with [`Refusal::NotInteger`] and
+    /// [`Refusal::IntegerOverflow`] behind [`Refusal::TooOld`].
+    pub fn increment<L: Ledger>(
+        &mut self,
+        who: Actor<'_>,
+        key: &[u8],
+        by: i64,
+        local: Timestamp,
+        looks: &mut Looks<L>,
+    ) -> Result<i64, Refusal>
+        ensures answers { Answers result (λ number. Wrote (Number number)) self.old self.new
+            (step self.old (Write key.now (record { who = actor_of who.entry; kind = rule.Increment by; local = time_of local }))) }
+        ensures looks { looks.new ≤ looks.old + looks_at self.old key.now }
+    {
+        let kind = WriteKind::Increment(by);
+        let answer = self.write(key, &WriteRequest { who, kind, local }, looks)?;
+        Ok(number_in(answer))
+    }
+
+    /// The newest version of the key that is not newer than the timestamp, where it is no deletion and no tombstone is above it
+    /// (CockroachDB `MVCCGet` outside of a transaction). It is refused with [`Refusal::Conflict`] where the key has an intent at or
+    /// below the timestamp.
+    pub fn get_at(&self, key: &[u8], ts: Timestamp) -> Result<Option<Found>, Refusal>
+        ensures { AnswersRead result (λ found. Got (option_map found_of found)) self.now (step self.now (Get key.now (time_of ts))) }
+    {
+        get(self.alloc, &self.store, key, ts)
     }
 
     /// Ages the statistics to a moment, in nanoseconds of wall time.
@@ -114,7 +196,7 @@ impl Engine {
     pub fn flush(&mut self) -> Result<(), OutOfMemory>
         ensures { AnswersUnlessFull result (λ done. Finished) self.old self.new (step self.old Flush) }
     {
-        self.versions.flush()
+        self.store.flush()
     }
 
     /// Unites the oldest runs into one, so that at most `keep` runs are left (Pebble `DB.Compact`). What is stored stays the same.
@@ -123,14 +205,14 @@ impl Engine {
         requires { 1 ≤ keep }
         ensures { AnswersUnlessFull result (λ done. Finished) self.old self.new (step self.old (Compact keep)) }
     {
-        self.versions.compact(keep)
+        self.store.compact(keep)
     }
 
     /// How many names each part holds and clears: the memory table first, then the runs from the newest to the oldest.
     pub fn layout(&self) -> Result<Vec<PartShape>, OutOfMemory>
         ensures { IfOk result (λ shapes. map seen_shape shapes.items ≡ layout self.now.parts) }
     {
-        self.versions.layout()
+        self.store.layout()
     }
 
     /// The running statistics, which are those of a recount of what is stored at the latest moment.
@@ -140,36 +222,23 @@ impl Engine {
         self.stats
     }
 
-    /// Puts a version of the key, and answers whether a value was there.
-    fn write(&mut self, key: &[u8], body: Body<'_>, ts: Timestamp) -> Result<bool, Refusal>
-        ensures outside { self.old.history.intents ≡ [] }
-        ensures steps { (reply : Bool → Reply) → Answers result reply self.old self.new (change self.old reply (write self.old.history key.now (time_of ts) (seen_body body.entry))) }
+    /// Carries a write out, and answers as its rule does. Memory is taken before the first change.
+    fn write<L: Ledger>(
+        &mut self,
+        key: &[u8],
+        request: &WriteRequest<'_>,
+        looks: &mut Looks<L>,
+    ) -> Result<WriteAnswer, Refusal>
+        ensures answers { Answers result (λ answer. Wrote (answer_of answer)) self.old self.new (step self.old (Write key.now (request_of request.now))) }
+        ensures formed { IfOk result (λ answer. IsAnswerTo (request_of request.now).kind (answer_of answer)) }
+        ensures looks { looks.new ≤ looks.old + looks_at self.old key.now }
     {
-        let planned = self.plan(key, body, ts)?;
-        self.versions.put(planned.version)?;
-        self.stats = planned.stats;
-        Ok(planned.was_there)
-    }
-
-    /// What a write comes to, or why it is refused.
-    fn plan(&self, key: &[u8], body: Body<'_>, ts: Timestamp) -> Result<Planned, Refusal>
-        ensures { MatchResult result
-            (λ p. IsPlanned self.now key.now (time_of ts) (seen_body body.entry) p)
-            (λ why. (reply : Bool → Reply) → Tells (refusal_of why) (change self.now reply (write self.now.history key.now (time_of ts) (seen_body body.entry)))) }
-    {
-        check(key, body, ts)?;
-        let name = encode_key(self.alloc, key, ts)?;
-        let newest = self.versions.newest_of(key, record_key(name.as_slice()))?;
-        past(newest, ts)?;
-        let version = StoredVersion::new(self.alloc, name, ts, body)?;
-        let now = max(self.stats.last_update_nanos(), ts.wall());
+        let last = self.stats.last_update_nanos();
+        let (change, answer) = plan_put(self.alloc, &self.store, last, key, request, looks)?;
         let mut stats = self.stats;
-        let change = change_of(key.len() as u64, version.shape(), newest, now);
-        stats.settle(&change, now)?;
-        Ok(Planned {
-            version,
-            stats,
-            was_there: is_value(newest),
-        })
+        stats.settle(&change.delta, change.last)?;
+        self.store.apply(change.batch)?;
+        self.stats = stats;
+        Ok(answer)
     }
 }

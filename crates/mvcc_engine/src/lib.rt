@@ -1,16 +1,13 @@
-//! The engine: every version of every key, and statistics that are a recount of what is stored.
+//! The engine: every version and every intent of every key, and statistics that are a recount of what is stored.
 #![tactic(auto)]
 
-mod change;
+mod answer;
 mod engine;
-mod plan;
+mod reading;
 mod refusal;
-mod version;
-mod versions;
+#[cfg(test)]
+mod tests;
 
 pub use engine::Engine;
 pub use lsm_store::PartShape;
 pub use refusal::{AgeFault, Refusal};
-
-#[cfg(test)]
-mod tests;

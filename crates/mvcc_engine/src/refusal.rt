@@ -1,11 +1,14 @@
 //! Why a call is refused.
 ghost use Rattle.std.specs.Prelude.{◌≡◌};
 
-use mvcc_key::{OutOfMemory, Timestamp};
+use intent_meta::IntentSeen;
+use mvcc_key::{Elements, OutOfMemory, Timestamp};
+use mvcc_put::PutFault;
+use mvcc_value::OwnedValue;
 use stat_core::{CountOverflow, Field};
 
 /// Why a call is refused. A refused call leaves everything as it was.
-#[derive(Clone, Copy, Debug, PartialEq, Eq)]
+#[derive(Debug, Drop)]
 pub enum Refusal {
     /// Memory was wanting.
     OutOfMemory,
@@ -17,8 +20,26 @@ pub enum Refusal {
     ValueTooLong(u64),
     /// The timestamp is [`Timestamp::NONE`].
     BadTimestamp,
-    /// The key's newest version is not older than the write (CockroachDB `WriteTooOldError`): its timestamp.
+    /// Another's intent is in the way (CockroachDB `WriteIntentError`): this one.
+    Conflict(Elements<IntentSeen>),
+    /// The transaction's own intent is of a later epoch: its own epoch, and the intent's.
+    EpochFault(u32, u32),
+    /// The write was made before, by the intent's last sequence, and no entry has its sequence, which this is.
+    ReplayMissing(u32),
+    /// The write was made before, and it wrote another value: this one, or none for a deletion.
+    ReplayMismatch(Option<OwnedValue>),
+    /// The newest item of the key is at or above the timestamp at which the writer reads (CockroachDB `WriteTooOldError`): its
+    /// timestamp.
     TooOld(Timestamp),
+    /// The value before is not the one on which the write depends (CockroachDB `ConditionFailedError`): the value that is
+    /// there, or none.
+    ConditionFailed(Option<OwnedValue>),
+    /// The value before an increment is bytes, which these are.
+    NotInteger(OwnedValue),
+    /// The sum leaves 64 signed bits (CockroachDB `IntegerOverflowError`): the number before, and what was to be added.
+    IntegerOverflow(i64, i64),
+    /// The record of the new intent is longer than 16,777,216 bytes: its length.
+    IntentTooLong(u64),
     /// The moment is before the latest one, which is this, in nanoseconds of wall time.
     MomentTooEarly(u64),
     /// This statistic would pass the bound, and those before it would not.
@@ -42,6 +63,32 @@ impl From<OutOfMemory> for Refusal {
 
     fn from(_: OutOfMemory) -> Self {
         Refusal::OutOfMemory
+    }
+}
+
+impl From<PutFault> for Refusal {
+    ghost use Rattle.std.specs.Prelude.{◌≡◌};
+    ghost use Rattle.mvcc_engine.specs.views.Seen.{as_put_refusal};
+
+    ghost from_gives = { λ fault e. e ≡ as_put_refusal fault };
+
+    fn from(fault: PutFault) -> Self {
+        match fault {
+            PutFault::OutOfMemory => Refusal::OutOfMemory,
+            PutFault::EmptyKey => Refusal::EmptyKey,
+            PutFault::KeyTooLong(len) => Refusal::KeyTooLong(len),
+            PutFault::ValueTooLong(len) => Refusal::ValueTooLong(len),
+            PutFault::BadTimestamp => Refusal::BadTimestamp,
+            PutFault::Conflict(intents) => Refusal::Conflict(intents),
+            PutFault::EpochFault(own, other) => Refusal::EpochFault(own, other),
+            PutFault::ReplayMissing(sequence) => Refusal::ReplayMissing(sequence),
+            PutFault::ReplayMismatch(stored) => Refusal::ReplayMismatch(stored),
+            PutFault::TooOld(existing) => Refusal::TooOld(existing),
+            PutFault::ConditionFailed(actual) => Refusal::ConditionFailed(actual),
+            PutFault::NotInteger(actual) => Refusal::NotInteger(actual),
+            PutFault::IntegerOverflow(old, by) => Refusal::IntegerOverflow(old, by),
+            PutFault::IntentTooLong(len) => Refusal::IntentTooLong(len),
+        }
     }
 }
 

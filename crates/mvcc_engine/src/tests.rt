@@ -1,33 +1,111 @@
+//! Courses of commands on an engine, against answers and statistics that were counted outside.
+ghost use Rattle.std.specs.Prelude.{◌≡◌, ◌<◌};
+
 use super::*;
-use mvcc_key::{OutOfMemory, Timestamp};
-use mvcc_value::{Found, PlainValue};
+use mvcc_key::{Looks, OutOfMemory, Timestamp};
+use mvcc_value::{Found, OwnedValue, PlainValue};
 use stat_core::{Field, Stats};
-use std::alloc::{AllocError, Global};
+use std::alloc::Global;
+use std::marker::Brand;
+use std::sync::ledger::{Blank, Ledger};
 use std::test::Fail;
+use txn_state::{Actor, Txn};
+use uuid::Uuid;
+
+mod conditions;
+mod keys;
+mod parts;
+mod times;
+mod txns;
 
 const SECOND: u64 = 1_000_000_000;
 
 const LARGEST: u64 = (1 << 63) - 1;
 
+const ABC: PlainValue<'static> = PlainValue::Bytes(b"abc");
+
+const DE: PlainValue<'static> = PlainValue::Bytes(b"de");
+
+const X: PlainValue<'static> = PlainValue::Bytes(b"x");
+
+fn at(wall: u64) -> Timestamp {
+    Timestamp::new(wall, 0).unwrap_or(Timestamp::NONE)
+}
+
+/// Who writes: no transaction, at a wall time, or a transaction, with the number that its id is, the wall time at which it reads
+/// and writes, and its sequence.
 #[derive(Clone, Copy)]
-enum Call {
-    Put(&'static [u8], u64, &'static [u8]),
-    Delete(&'static [u8], u64),
+enum Writer {
+    At(u64),
+    In(u128, u64, u32),
+}
+
+/// What is written.
+#[derive(Clone, Copy)]
+enum Write<'a> {
+    Put(PlainValue<'a>),
+    Delete,
+    PutIf(PlainValue<'a>, Option<PlainValue<'a>>),
+    InitPut(PlainValue<'a>),
+    Increment(i64),
+}
+
+/// A call: a write of a key, a read of one at a wall time, or another.
+#[derive(Clone, Copy)]
+enum Call<'a> {
+    Write(Writer, &'a [u8], Write<'a>),
+    Get(&'a [u8], u64),
     Age(u64),
     Flush,
     Compact(u64),
 }
 
-#[derive(Clone, Copy, PartialEq, Eq)]
+/// What a call answers.
+#[derive(Drop)]
+enum Outcome {
+    Done,
+    WasThere(bool),
+    Number(i64),
+    Got(Option<Found>),
+    Refused(Refusal),
+}
+
+/// What a call is to answer; a value that is found with its wall time.
+#[derive(Clone, Copy)]
 enum Answer {
     Done,
     WasThere(bool),
-    Refused(Refusal),
-    NotAged(AgeFault),
+    Number(i64),
+    Nothing,
+    Shown(PlainValue<'static>, u64),
+    Refused(Why),
 }
 
-fn at(nanos: u64) -> Timestamp {
-    Timestamp::new(nanos, 0).unwrap_or(Timestamp::NONE)
+/// Why a call is to be refused; an intent with the number that its id is, and its wall time.
+#[derive(Clone, Copy)]
+enum Why {
+    Empty,
+    KeyOf(u64),
+    ValueOf(u64),
+    NoTime,
+    Conflict(u128, u64),
+    Missing(u32),
+    Mismatch(Option<PlainValue<'static>>),
+    TooOld(u64),
+    Condition(Option<PlainValue<'static>>),
+    NotInteger(PlainValue<'static>),
+    Overflow(i64, i64),
+    TooEarly(u64),
+    Count(Field),
+}
+
+impl From<Result<(), Refusal>> for Outcome {
+    fn from(done: Result<(), Refusal>) -> Outcome {
+        match done {
+            Ok(()) => Outcome::Done,
+            Err(why) => Outcome::Refused(why),
+        }
+    }
 }
 
 /// An engine whose statistics have this bound, or the largest.
@@ -38,55 +116,177 @@ fn bounded(alloc: Global, count_max: u64) -> Engine {
     Engine::new(alloc, count_max)
 }
 
-fn answer_to(engine: &mut Engine, call: Call) -> Answer {
+fn write_as<L: Ledger>(
+    engine: &mut Engine,
+    who: Actor<'_>,
+    key: &[u8],
+    kind: Write<'_>,
+    looks: &mut Looks<L>,
+) -> Outcome {
+    let local = Timestamp::NONE;
+    match kind {
+        Write::Put(value) => engine.put(who, key, value, local, looks).into(),
+        Write::Delete => match engine.delete(who, key, local, looks) {
+            Ok(there) => Outcome::WasThere(there),
+            Err(why) => Outcome::Refused(why),
+        },
+        Write::PutIf(value, expected) => {
+            engine
+                .conditional_put(who, key, value, expected, local, looks)
+                .into()
+        }
+        Write::InitPut(value) => engine.init_put(who, key, value, local, looks).into(),
+        Write::Increment(by) => match engine.increment(who, key, by, local, looks) {
+            Ok(number) => Outcome::Number(number),
+            Err(why) => Outcome::Refused(why),
+        },
+    }
+}
+
+fn write_by<L: Ledger>(
+    alloc: Global,
+    engine: &mut Engine,
+    who: Writer,
+    key: &[u8],
+    kind: Write<'_>,
+    looks: &mut Looks<L>,
+) -> Result<Outcome, Fail> {
+    match who {
+        Writer::At(wall) => Ok(write_as(engine, Actor::At(at(wall)), key, kind, looks)),
+        Writer::In(id, wall, sequence) => {
+            let mut txn = Txn::begin(alloc, Uuid::from_u128(id), at(wall), Timestamp::NONE);
+            txn.step(sequence)?;
+            Ok(write_as(engine, Actor::In(&txn), key, kind, looks))
+        }
+    }
+}
+
+fn age(engine: &mut Engine, now: u64) -> Result<(), Refusal> {
+    if now <= LARGEST {
+        engine.age(now)?;
+    }
+    Ok(())
+}
+
+fn flush(engine: &mut Engine) -> Result<(), Refusal> {
+    engine.flush()?;
+    Ok(())
+}
+
+fn compact(engine: &mut Engine, keep: u64) -> Result<(), Refusal> {
+    engine.compact(keep.max(1))?;
+    Ok(())
+}
+
+fn make<L: Ledger>(
+    alloc: Global,
+    engine: &mut Engine,
+    call: Call<'_>,
+    looks: &mut Looks<L>,
+) -> Result<Outcome, Fail> {
     match call {
-        Call::Put(key, nanos, bytes) => {
-            match engine.put_at(key, PlainValue::Bytes(bytes), at(nanos)) {
-                Ok(()) => Answer::Done,
-                Err(why) => Answer::Refused(why),
-            }
-        }
-        Call::Delete(key, nanos) => match engine.delete_at(key, at(nanos)) {
-            Ok(there) => Answer::WasThere(there),
-            Err(why) => Answer::Refused(why),
+        Call::Write(who, key, kind) => write_by(alloc, engine, who, key, kind, looks),
+        Call::Get(key, wall) => match engine.get_at(key, at(wall)) {
+            Ok(found) => Ok(Outcome::Got(found)),
+            Err(why) => Ok(Outcome::Refused(why)),
         },
-        Call::Flush => match engine.flush() {
-            Ok(()) => Answer::Done,
-            Err(OutOfMemory) => Answer::Refused(Refusal::OutOfMemory),
-        },
-        Call::Compact(keep) => {
-            if keep == 0 {
-                return Answer::Done;
-            }
-            match engine.compact(keep) {
-                Ok(()) => Answer::Done,
-                Err(OutOfMemory) => Answer::Refused(Refusal::OutOfMemory),
-            }
-        }
-        Call::Age(now) => {
-            if now > LARGEST {
-                return Answer::Done;
-            }
-            match engine.age(now) {
-                Ok(()) => Answer::Done,
-                Err(why) => Answer::NotAged(why),
-            }
-        }
+        Call::Age(now) => Ok(age(engine, now).into()),
+        Call::Flush => Ok(flush(engine).into()),
+        Call::Compact(keep) => Ok(compact(engine, keep).into()),
     }
 }
 
-/// Whether each call in turn gets its answer.
-fn are_answered(engine: &mut Engine, calls: &[(Call, Answer)]) -> bool {
-    for (call, answer) in calls {
-        if answer_to(engine, *call) != *answer {
-            return false;
-        }
+/// Whether a value of its own is this one, or both are none.
+fn is_value(value: &Option<OwnedValue>, want: Option<PlainValue<'_>>) -> bool {
+    match (value, want) {
+        (Some(value), Some(want)) => value.as_plain() == want,
+        (None, None) => true,
+        _ => false,
     }
-    true
 }
 
-/// Keys and their bytes, values and their bytes, live keys and live bytes, the age of garbage, and the moment.
-fn numbers(stats: &Stats) -> [u64; 8] {
+fn is_why(refusal: &Refusal, want: Why) -> bool {
+    match (refusal, want) {
+        (Refusal::EmptyKey, Why::Empty) => true,
+        (Refusal::KeyTooLong(length), Why::KeyOf(want)) => *length == want,
+        (Refusal::ValueTooLong(length), Why::ValueOf(want)) => *length == want,
+        (Refusal::BadTimestamp, Why::NoTime) => true,
+        (Refusal::Conflict(intents), Why::Conflict(id, wall)) => match intents.as_slice() {
+            [intent] => intent.id == Uuid::from_u128(id) && intent.ts == at(wall),
+            _ => false,
+        },
+        (Refusal::ReplayMissing(sequence), Why::Missing(want)) => *sequence == want,
+        (Refusal::ReplayMismatch(stored), Why::Mismatch(want)) => is_value(stored, want),
+        (Refusal::TooOld(existing), Why::TooOld(wall)) => *existing == at(wall),
+        (Refusal::ConditionFailed(actual), Why::Condition(want)) => is_value(actual, want),
+        (Refusal::NotInteger(actual), Why::NotInteger(want)) => actual.as_plain() == want,
+        (Refusal::IntegerOverflow(old, by), Why::Overflow(number, added)) => {
+            *old == number && *by == added
+        }
+        (Refusal::MomentTooEarly(latest), Why::TooEarly(want)) => *latest == want,
+        (Refusal::CountOverflow(field), Why::Count(want)) => *field == want,
+        _ => false,
+    }
+}
+
+fn is_answer(outcome: &Outcome, want: Answer) -> bool {
+    match (outcome, want) {
+        (Outcome::Done, Answer::Done) => true,
+        (Outcome::WasThere(there), Answer::WasThere(want)) => *there == want,
+        (Outcome::Number(number), Answer::Number(want)) => *number == want,
+        (Outcome::Got(None), Answer::Nothing) => true,
+        (Outcome::Got(Some(found)), Answer::Shown(value, wall)) => {
+            found.value.as_plain() == value && found.ts == at(wall)
+        }
+        (Outcome::Refused(why), Answer::Refused(want)) => is_why(why, want),
+        _ => false,
+    }
+}
+
+/// The number of the first call that is not answered as is wanted.
+fn first_wrong<L: Ledger>(
+    alloc: Global,
+    engine: &mut Engine,
+    calls: &[(Call<'_>, Answer)],
+    looks: &mut Looks<L>,
+) -> Result<Option<usize>, Fail> {
+    for (i, (call, answer)) in calls.iter().enumerate() {
+        let outcome = make(alloc, engine, *call, looks)?;
+        if !is_answer(&outcome, *answer) {
+            return Ok(Some(i));
+        }
+    }
+    Ok(None)
+}
+
+/// The same, on an engine that is bounded so, with the engine after the calls.
+fn course(
+    alloc: Global,
+    count_max: u64,
+    calls: &[(Call<'_>, Answer)],
+) -> Result<(Option<usize>, Engine), Fail> {
+    course_in::<Brand>(alloc, count_max, calls, Blank::new(1))
+}
+
+/// The same, with the looks in a ledger of their own.
+fn course_in<L: Ledger>(
+    alloc: Global,
+    count_max: u64,
+    calls: &[(Call<'_>, Answer)],
+    blank: Blank,
+) -> Result<(Option<usize>, Engine), Fail>
+    requires name { blank.name ≡ L.name }
+    requires parts { blank.parts ≡ L.parts }
+    requires some { 0 < blank.parts }
+{
+    let mut looks = Looks::<L>::new(blank);
+    let mut engine = bounded(alloc, count_max);
+    let wrong = first_wrong(alloc, &mut engine, calls, &mut looks)?;
+    Ok((wrong, engine))
+}
+
+/// All statistics in their order, the moment last.
+fn numbers(stats: &Stats) -> [u64; 15] {
     [
         stats.key_count(),
         stats.key_bytes(),
@@ -94,216 +294,45 @@ fn numbers(stats: &Stats) -> [u64; 8] {
         stats.val_bytes(),
         stats.live_count(),
         stats.live_bytes(),
+        stats.intent_count(),
+        stats.intent_bytes(),
+        stats.intent_age(),
         stats.gc_bytes_age(),
+        stats.range_key_count(),
+        stats.range_key_bytes(),
+        stats.range_val_count(),
+        stats.range_val_bytes(),
         stats.last_update_nanos(),
     ]
 }
 
-#[test]
-fn statistics_are_a_recount(rt: HostRuntime) -> Result<(), Fail> {
-    use Answer::{Done, NotAged, Refused, WasThere};
-    use Call::{Age, Delete, Put};
-    const ONE: Call = Put(b"a", SECOND, b"abc");
-    let cases: [(u64, &[(Call, Answer)], [u64; 8]); 6] = [
-        (LARGEST, &[(ONE, Done)], [1, 14, 1, 8, 1, 22, 0, SECOND]),
-        (
-            LARGEST,
-            &[
-                (ONE, Done),
-                (Delete(b"a", 3 * SECOND), WasThere(true)),
-                (Age(10 * SECOND), Done),
-            ],
-            [1, 26, 2, 8, 0, 0, 238, 10 * SECOND],
-        ),
-        (
-            LARGEST,
-            &[
-                (ONE, Done),
-                (
-                    Put(b"a", SECOND, b"x"),
-                    Refused(Refusal::TooOld(at(SECOND))),
-                ),
-            ],
-            [1, 14, 1, 8, 1, 22, 0, SECOND],
-        ),
-        (
-            LARGEST,
-            &[
-                (Put(b"a", 900_000_000, b"abc"), Done),
-                (Put(b"a", 1_900_000_000, b"abc"), Done),
-                (Age(2 * SECOND), Done),
-            ],
-            [1, 26, 2, 16, 1, 22, 20, 2 * SECOND],
-        ),
-        (
-            100,
-            &[
-                (ONE, Done),
-                (Delete(b"a", 3 * SECOND), WasThere(true)),
-                (Age(5 * SECOND), Done),
-                (
-                    Age(6 * SECOND),
-                    NotAged(AgeFault::CountOverflow(Field::GcBytesAge)),
-                ),
-                (
-                    Age(4 * SECOND),
-                    NotAged(AgeFault::MomentTooEarly(5 * SECOND)),
-                ),
-            ],
-            [1, 26, 2, 8, 0, 0, 68, 5 * SECOND],
-        ),
-        (
-            25,
-            &[
-                (ONE, Done),
-                (
-                    Put(b"a", 2 * SECOND, b""),
-                    Refused(Refusal::CountOverflow(Field::KeyBytes)),
-                ),
-                (
-                    Delete(b"b", SECOND),
-                    Refused(Refusal::CountOverflow(Field::KeyBytes)),
-                ),
-            ],
-            [1, 14, 1, 8, 1, 22, 0, SECOND],
-        ),
-    ];
-    for (count_max, calls, statistics) in cases {
-        let mut engine = bounded(rt.alloc(), count_max);
-        assert!(rt; are_answered(&mut engine, calls));
-        assert!(rt; numbers(&engine.stats()) == statistics);
-    }
-    Ok(())
-}
-
-/// So many bytes.
-fn filled(alloc: Global, size: usize) -> Result<Vec<u8>, AllocError> {
-    let mut bytes = Vec::new(alloc);
-    bytes.resize(size, b'x')?;
-    Ok(bytes)
-}
-
-#[test]
-fn refusals_come_in_their_order(rt: HostRuntime) -> Result<(), Fail> {
-    let alloc = rt.alloc();
-    let mut engine = bounded(alloc, LARGEST);
-    engine.put_at(b"a", PlainValue::Int(7), at(3))?;
-    let before = numbers(&engine.stats());
-    let longest = filled(alloc, 4_096)?;
-    let too_long = filled(alloc, 4_097)?;
-    let largest = filled(alloc, 1_048_576)?;
-    let too_large = filled(alloc, 1_048_577)?;
-    let small = PlainValue::Bytes(b"v");
-    let large = PlainValue::Bytes(&too_large);
-    let cases: [(&[u8], PlainValue<'_>, Timestamp, Refusal); 6] = [
-        (b"", large, Timestamp::NONE, Refusal::EmptyKey),
-        (
-            &too_long,
-            large,
-            Timestamp::NONE,
-            Refusal::KeyTooLong(4_097),
-        ),
-        (
-            b"a",
-            large,
-            Timestamp::NONE,
-            Refusal::ValueTooLong(1_048_577),
-        ),
-        (b"a", small, Timestamp::NONE, Refusal::BadTimestamp),
-        (b"a", small, at(3), Refusal::TooOld(at(3))),
-        (b"a", small, at(2), Refusal::TooOld(at(3))),
-    ];
-    for (key, value, ts, refusal) in cases {
-        assert!(rt; engine.put_at(key, value, ts) == Err(refusal));
-    }
-    assert!(rt; engine.delete_at(&too_long, at(1)) == Err(Refusal::KeyTooLong(4_097)));
-    assert!(rt; numbers(&engine.stats()) == before);
-    assert!(rt; engine.put_at(&longest, PlainValue::Bytes(&largest), at(1)) == Ok(()));
-    Ok(())
-}
-
-fn shows(found: Option<Found>, shown: Option<(&[u8], PlainValue<'_>, u64)>) -> bool {
-    match (found, shown) {
-        (Some(found), Some((key, value, nanos))) => {
-            found.key.bytes() == key && found.value.as_plain() == value && found.ts == at(nanos)
-        }
-        (None, None) => true,
-        _ => false,
-    }
-}
-
-#[test]
-fn a_read_sees_the_newest_version_at_its_time(rt: HostRuntime) -> Result<(), Fail> {
-    let mut engine = bounded(rt.alloc(), LARGEST);
-    engine.put_at(b"b", PlainValue::Bytes(b"x"), at(2))?;
-    engine.put_at(b"a", PlainValue::Bytes(b"abc"), at(1))?;
-    engine.put_at(b"b", PlainValue::Int(-30), at(4))?;
-    assert!(rt; engine.delete_at(b"b", at(6))? && !engine.delete_at(b"b", at(7))?);
-    assert!(rt; !engine.delete_at(b"c", at(1))?);
-    engine.put_at(b"b", PlainValue::Bytes(b""), at(9))?;
-    let cases: [(&[u8], u64, Option<(&[u8], PlainValue<'_>, u64)>); 11] = [
-        (b"a", 0, None),
-        (b"a", 1, Some((b"a", PlainValue::Bytes(b"abc"), 1))),
-        (b"a", 9, Some((b"a", PlainValue::Bytes(b"abc"), 1))),
-        (b"aa", 9, None),
-        (b"b", 1, None),
-        (b"b", 3, Some((b"b", PlainValue::Bytes(b"x"), 2))),
-        (b"b", 5, Some((b"b", PlainValue::Int(-30), 4))),
-        (b"b", 6, None),
-        (b"b", 8, None),
-        (b"b", 9, Some((b"b", PlainValue::Bytes(b""), 9))),
-        (b"c", 9, None),
-    ];
-    for (key, nanos, shown) in cases {
-        assert!(rt; shows(engine.get_at(key, at(nanos))?, shown));
-    }
-    Ok(())
-}
-
-/// How many names each of the first three parts of an engine holds.
-fn keys_of_parts(engine: &Engine) -> Result<[u64; 3], OutOfMemory> {
-    let shapes = engine.layout()?;
-    let mut keys = [0; 3];
-    for (i, shape) in shapes.iter().enumerate() {
-        if i < keys.len() {
-            keys[i] = shape.keys;
-        }
-    }
-    Ok(keys)
-}
-
-#[test]
-fn parts_come_and_go(rt: HostRuntime) -> Result<(), Fail> {
-    use Answer::{Done, WasThere};
-    use Call::{Compact, Delete, Flush, Put};
-    let looks: [(Call, Answer, [u64; 3]); 9] = [
-        (Put(b"a", 1, b"abc"), Done, [1, 0, 0]),
-        (Flush, Done, [0, 1, 0]),
-        (Flush, Done, [0, 1, 0]),
-        (Put(b"a", 2, b"x"), Done, [1, 1, 0]),
-        (Delete(b"b", 1), WasThere(false), [2, 1, 0]),
-        (Flush, Done, [0, 2, 1]),
-        (Compact(2), Done, [0, 2, 1]),
-        (Compact(1), Done, [0, 3, 0]),
-        (
-            Put(b"a", 2, b"y"),
-            Answer::Refused(Refusal::TooOld(at(2))),
-            [0, 3, 0],
-        ),
-    ];
-    let mut engine = bounded(rt.alloc(), LARGEST);
-    for (call, answer, keys) in looks {
-        assert!(rt; answer_to(&mut engine, call) == answer);
-        assert!(rt; keys_of_parts(&engine)? == keys);
-    }
-    assert!(rt; numbers(&engine.stats()) == [2, 40, 3, 14, 1, 20, 0, 2]);
-    let reads: [(&[u8], u64, Option<(&[u8], PlainValue<'_>, u64)>); 3] = [
-        (b"a", 1, Some((b"a", PlainValue::Bytes(b"abc"), 1))),
-        (b"a", 9, Some((b"a", PlainValue::Bytes(b"x"), 2))),
-        (b"b", 9, None),
-    ];
-    for (key, nanos, shown) in reads {
-        assert!(rt; shows(engine.get_at(key, at(nanos))?, shown));
-    }
-    Ok(())
+/// The statistics of keys without tombstones: key_count, key_bytes, val_count, val_bytes, live_count, live_bytes; then
+/// intent_count, intent_bytes, intent_age; then gc_bytes_age and the moment.
+fn of_keys(keys: [u64; 6], intents: [u64; 3], age: u64, last: u64) -> [u64; 15] {
+    let [
+        key_count,
+        key_bytes,
+        val_count,
+        val_bytes,
+        live_count,
+        live_bytes,
+    ] = keys;
+    let [intent_count, intent_bytes, intent_age] = intents;
+    [
+        key_count,
+        key_bytes,
+        val_count,
+        val_bytes,
+        live_count,
+        live_bytes,
+        intent_count,
+        intent_bytes,
+        intent_age,
+        age,
+        0,
+        0,
+        0,
+        0,
+        last,
+    ]
 }

@@ -15,6 +15,18 @@ use std::sync::ledger::{Blank, Ledger};
 ///
 /// The cursor of one part, a memory table or a run, also shows the names that the part clears, which have no value, and each
 /// of its moves takes few looks.
+///
+/// ```text
+/// over a@2=x, a@1=y, c@1=z    place    key, value
+/// (a new cursor)              0        none: before the first
+/// seek_ge(b)                  3        c@1, z
+/// prev                        2        a@1, y
+/// seek_lt(a@2)                0        none
+/// next                        1        a@2, x
+/// seek_ge(d)                  4        none: past the last
+/// next                        4        none
+/// prev                        3        c@1, z
+/// ```
 pub trait Cursor {
     /// The pairs in order; a name without a value is cleared.
     ghost points: { Self → List Point };

@@ -1,22 +1,31 @@
 -- Scripts and what a run writes for them, computed from the definitions.
-use Rattle.std.specs.Prelude.{◌≡◌, [], ◌∷◌, codes, refl, ⊤}
+use Rattle.std.specs.Prelude.{◌≡◌, [], ◌∷◌, Some, codes, refl, ⊤}
 use Rattle.mvcc_key.specs.Items.{items}
 use Rattle.mvcc_key.specs.Fragments.{fragments}
-use Rattle.mvcc_value.specs.Encoding.{varint, value_bytes}
+use Rattle.mvcc_value.specs.Encoding.{varint, value_bytes, plain_body, value_of}
 use Rattle.stat_core.specs.DeadSince.{dead_since}
 use Rattle.stat_core.specs.ComputeStats.{overflowing, key_sums, compute_stats}
 use Rattle.lsm_store.specs.Parts.{after_batch, flushed, compacted}
+use Rattle.intent_meta.specs.Record.{record_bytes, record_of}
 use Rattle.intent_meta.specs.StoredPairs.{stored_pairs}
 use Rattle.read_rule.specs.Read.{get, decide, listed}
 use Rattle.write_rule.specs.Write.{write, value_before}
 use Rattle.mvcc_engine.specs.Step.{statistics, step}
-use Rattle.script_text.proofs.Examples.{on_words}
+use Rattle.script_line.proofs.Examples.{on_words}
+use Rattle.script_line.specs.Forms.{text}
+use Rattle.script_text.specs.Text.{escaped}
+use Rattle.script_text.proofs.Examples.{on_texts}
 use Rattle.script_run.specs.Output.{without_return, carry_out, output_from, lines, script_output, output, whole_part}
 
 -- what an example unfolds
 unfoldable pub on_literals : ⊤
-unfolding on_words items fragments varint value_bytes dead_since overflowing key_sums compute_stats stored_pairs after_batch flushed compacted get decide listed write value_before statistics step without_return carry_out output_from lines script_output output whole_part
+unfolding on_words on_texts items fragments varint value_bytes plain_body value_of record_bytes record_of dead_since overflowing key_sums compute_stats stored_pairs after_batch flushed compacted get decide listed write value_before statistics step without_return carry_out output_from lines script_output output whole_part
 on_literals = tt
+
+-- what is written of bytes, and read again
+written_and_read : text (escaped (0x00 ∷ 0x22 ∷ 0x5c ∷ 0x78 ∷ 0x20 ∷ 0xff ∷ [])) ≡ Some (0x00 ∷ 0x22 ∷ 0x5c ∷ 0x78 ∷ 0x20 ∷ 0xff ∷ [])
+unfolding on_literals
+written_and_read = refl
 
 empty_script : output (codes "run" ∷ []) [] ≡ []
 unfolding on_literals
@@ -84,3 +93,29 @@ parts_with_statistics : output (codes "run" ∷ codes "--stats" ∷ []) (codes "
     ≡ codes "ok\nstats: key_count=1 key_bytes=14 val_count=1 val_bytes=8 live_count=1 live_bytes=22 intent_count=0 intent_bytes=0 intent_age=0 gc_bytes_age=0 range_key_count=0 range_key_bytes=0 range_val_count=0 range_val_bytes=0 last_update_nanos=1000000000\nok\nstats: key_count=1 key_bytes=14 val_count=1 val_bytes=8 live_count=1 live_bytes=22 intent_count=0 intent_bytes=0 intent_age=0 gc_bytes_age=0 range_key_count=0 range_key_bytes=0 range_val_count=0 range_val_bytes=0 last_update_nanos=1000000000\npart 0: mem keys=0 clears=0 ranges=no\npart 1: run keys=1 clears=0 ranges=no\nstats: key_count=1 key_bytes=14 val_count=1 val_bytes=8 live_count=1 live_bytes=22 intent_count=0 intent_bytes=0 intent_age=0 gc_bytes_age=0 range_key_count=0 range_key_bytes=0 range_val_count=0 range_val_bytes=0 last_update_nanos=1000000000\n"
 unfolding on_literals
 parts_with_statistics = refl
+
+transactions : output (codes "run" ∷ []) (codes "put k=a ts=1 v=x\ntxn_begin t=A ts=2\nput t=A k=a v=abc\nput t=A k=a v=abc\nput t=A k=a v=x\ntxn_step t=A n=2\nput t=A k=a v=de\ntxn_begin t=B ts=2 id=00000000-0000-0000-0000-000000000001\ntxn_step t=B\nput t=B k=a v=de\nput k=a ts=9 v=z\n")
+    ≡ codes "ok\ntxn: \"A\" id=00000000-0000-0000-0000-000000000001 epoch=0 seq=0 read=2.000000000,0 write=2.000000000,0 limit=0.000000000,0 ignored=none\nok\nok\nerror: ReplayMismatch stored=/BYTES/abc\ntxn: \"A\" id=00000000-0000-0000-0000-000000000001 epoch=0 seq=2 read=2.000000000,0 write=2.000000000,0 limit=0.000000000,0 ignored=none\nok\ntxn: \"B\" id=00000000-0000-0000-0000-000000000001 epoch=0 seq=0 read=2.000000000,0 write=2.000000000,0 limit=0.000000000,0 ignored=none\ntxn: \"B\" id=00000000-0000-0000-0000-000000000001 epoch=0 seq=1 read=2.000000000,0 write=2.000000000,0 limit=0.000000000,0 ignored=none\nerror: ReplayMissing sequence=1\nerror: Conflict \"a\"/00000000-0000-0000-0000-000000000001@2.000000000,0\n"
+unfolding on_literals
+transactions = refl
+
+names : output (codes "run" ∷ []) (codes "txn_begin t=A ts=1\ntxn_begin t=A ts=1\ntxn_remove t=A\nput t=A k=a v=x\ntxn_begin t=A ts=2\ntxn_step t=A n=2147483647\ntxn_step t=A\ntxn_ignore_seqs t=A seqs=2-1\n")
+    ≡ codes "txn: \"A\" id=00000000-0000-0000-0000-000000000001 epoch=0 seq=0 read=1.000000000,0 write=1.000000000,0 limit=0.000000000,0 ignored=none\nerror: TxnExists\nok\nerror: NoTxn\ntxn: \"A\" id=00000000-0000-0000-0000-000000000002 epoch=0 seq=0 read=2.000000000,0 write=2.000000000,0 limit=0.000000000,0 ignored=none\ntxn: \"A\" id=00000000-0000-0000-0000-000000000002 epoch=0 seq=2147483647 read=2.000000000,0 write=2.000000000,0 limit=0.000000000,0 ignored=none\nerror: SequenceLimit sequence=2147483647\nerror: BadRanges\n"
+unfolding on_literals
+names = refl
+
+increments : output (codes "run" ∷ []) (codes "increment k=a ts=1 inc=9223372036854775807\nincrement k=a ts=2 inc=1\ntxn_begin t=A ts=3\nincrement t=A k=b inc=5\nincrement t=A k=b inc=5\nput t=A k=b v=x\n")
+    ≡ codes "increment: 9223372036854775807\nerror: IntegerOverflow old=9223372036854775807 by=1\ntxn: \"A\" id=00000000-0000-0000-0000-000000000001 epoch=0 seq=0 read=3.000000000,0 write=3.000000000,0 limit=0.000000000,0 ignored=none\nincrement: 5\nincrement: 5\nerror: ReplayMismatch stored=/INT/5\n"
+unfolding on_literals
+increments = refl
+
+conditions : output (codes "run" ∷ []) (codes "cput k=a ts=1 v=abc\ncput k=a ts=2 v=x\ncput k=a ts=2 v=x cond=abc\ninitput k=a ts=3 v=x\ninitput k=a ts=4 v=y\nincrement k=a ts=4\n")
+    ≡ codes "ok\nerror: ConditionFailed actual=/BYTES/abc\nok\nok\nerror: ConditionFailed actual=/BYTES/x\nerror: NotInteger actual=/BYTES/x\n"
+unfolding on_literals
+conditions = refl
+
+-- a numbered id meets one that was given: the two names are one transaction's
+one_id : output (codes "run" ∷ []) (codes "txn_begin t=A ts=1 id=00000000000000000000000000000002\ntxn_begin t=A ts=1\ntxn_begin t=B ts=2\nput t=A k=a v=x\nput t=B k=a v=x\ntxn_step t=B\nput t=B k=a v=y\nput t=A k=a v=x\nput t=A k=a v=y\n")
+    ≡ codes "txn: \"A\" id=00000000-0000-0000-0000-000000000002 epoch=0 seq=0 read=1.000000000,0 write=1.000000000,0 limit=0.000000000,0 ignored=none\nerror: TxnExists\ntxn: \"B\" id=00000000-0000-0000-0000-000000000002 epoch=0 seq=0 read=2.000000000,0 write=2.000000000,0 limit=0.000000000,0 ignored=none\nok\nok\ntxn: \"B\" id=00000000-0000-0000-0000-000000000002 epoch=0 seq=1 read=2.000000000,0 write=2.000000000,0 limit=0.000000000,0 ignored=none\nok\nok\nerror: ReplayMismatch stored=/BYTES/x\n"
+unfolding on_literals
+one_id = refl

@@ -6,9 +6,8 @@ use Rattle.std.proofs.KnownBytes.{Appends-nil, Appends-trans, starts_with_rest}
 use Rattle.std.proofs.Common.{refl, sym, ap, ◌∙◌, subst, append_assoc, append-nil, length, drop}
 use Rattle.std.proofs.Math.Seq.{take-append_seam}
 use Rattle.io_edge.specs.Writing.{AppendsBeginning}
-use Rattle.mvcc_engine.specs.Step.{State, first_state}
-use Rattle.script_text.specs.CommandLine.{Options}
-use Rattle.script_run.specs.Output.{Carried, carry_out, text_of, lines, output_from, script_output}
+use Rattle.script_line.specs.CommandLine.{Options}
+use Rattle.script_run.specs.Output.{ScriptState, first_script_state, Carried, carry_out, text_of, lines, output_from, script_output}
 use Rattle.script_run.specs.views.Gathering.{Moves, Gathers, GathersBeginning}
 
 -- what is written, what is gathered and what is to come are all of the text
@@ -18,18 +17,18 @@ pub record IsUnderWay (held held' : Option (List ℕ)) (gathered coming all : Li
   pub whole : (written ++ gathered) ++ coming ≡ all
 
 -- before the first line
-pub begun : (options : Options) (held : Option (List ℕ)) (gathered script : List ℕ) (state : State) → gathered ≡ [] → state ≡ first_state options.count_max → IsUnderWay held held gathered (output_from options.stats state 1 (lines script)) (script_output options script)
+pub begun : (options : Options) (held : Option (List ℕ)) (gathered script : List ℕ) (state : ScriptState) → gathered ≡ [] → state ≡ first_script_state options.count_max → IsUnderWay held held gathered (output_from options.stats state 1 (lines script)) (script_output options script)
 unfolding script_output
 begun options held gathered script state none first = record { written = []; appended = Appends-nil held; whole = rw (none, first) refl }
 
 -- the text of a line and of the lines behind it
-output_from-line : (options : Options) (state : State) (n : ℕ) (line : List ℕ) (rest : List (List ℕ))
+output_from-line : (options : Options) (state : ScriptState) (n : ℕ) (line : List ℕ) (rest : List (List ℕ))
     → output_from options.stats state n (line ∷ rest) ≡ text_of options.stats (carry_out state n line) ++ output_from options.stats (carry_out state n line).state (n + 1) rest
 unfolding output_from
 output_from-line options state n line rest = refl
 
 -- one line more
-pub one_more : (options : Options) (held held' held'' : Option (List ℕ)) (text text' text'' script rest behind line : List ℕ) (state state' : State) (n : ℕ)
+pub one_more : (options : Options) (held held' held'' : Option (List ℕ)) (text text' text'' script rest behind line : List ℕ) (state state' : ScriptState) (n : ℕ)
     → IsUnderWay held held' text (output_from options.stats state n (lines rest)) (script_output options script) → lines rest ≡ line ∷ lines behind → state' ≡ (carry_out state n line).state
     → text' ≡ text ++ text_of options.stats (carry_out state n line) → Moves held' held'' text' text''
     → IsUnderWay held held'' text'' (output_from options.stats state' (n + 1) (lines behind)) (script_output options script)
@@ -52,7 +51,7 @@ one_more options held held' held'' text text' text'' script rest behind line sta
     }
 
 -- behind the last line all is written or gathered
-pub all_gathered : (options : Options) (held held' : Option (List ℕ)) (text script rest : List ℕ) (state : State) (n : ℕ)
+pub all_gathered : (options : Options) (held held' : Option (List ℕ)) (text script rest : List ℕ) (state : ScriptState) (n : ℕ)
     → IsUnderWay held held' text (output_from options.stats state n (lines rest)) (script_output options script) → rest ≡ [] → Gathers held held' text (script_output options script)
 unfolding output_from lines
 all_gathered options held held' text script rest state n so_far none =
@@ -105,7 +104,7 @@ written_beginning_part held held' held'' text all gathered failed =
     written_behind held held' held'' gathered.written text gathered.rest all gathered.appended gathered.whole failed
 
 -- the text to come begins with that of the first line
-pub as_line : (options : Options) (held held' : Option (List ℕ)) (text script rest behind line : List ℕ) (state : State) (n : ℕ)
+pub as_line : (options : Options) (held held' : Option (List ℕ)) (text script rest behind line : List ℕ) (state : ScriptState) (n : ℕ)
     → IsUnderWay held held' text (output_from options.stats state n (lines rest)) (script_output options script) → lines rest ≡ line ∷ lines behind
     → IsUnderWay held held' text (text_of options.stats (carry_out state n line) ++ output_from options.stats (carry_out state n line).state (n + 1) (lines behind)) (script_output options script)
 as_line options held held' text script rest behind line state n so_far is =

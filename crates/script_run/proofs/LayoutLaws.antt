@@ -11,10 +11,10 @@ use Rattle.lsm_store.specs.views.Seen.{seen_shape}
 use Rattle.lsm_store.specs.declared.shape.PartShape.{PartShape}
 use Rattle.script_text.specs.Text.{Answer, LayoutLine, show}
 use Rattle.mvcc_engine.specs.Step as engine
-use Rattle.mvcc_engine.specs.Step.{State, step}
-use Rattle.script_text.specs.Grammar.{Layout}
+use Rattle.mvcc_engine.specs.Step.{step}
+use Rattle.script_line.specs.Grammar.{Layout}
 use Rattle.script_run.specs.views.Answered.{IsAnswered}
-use Rattle.script_run.specs.Output.{laid_out, layout_answers, performed}
+use Rattle.script_run.specs.Output.{ScriptState, laid_out, layout_answers, performed}
 use Rattle.script_run.proofs.StepLaws.{taken_all, step-layout}
 
 -- the line of a part
@@ -45,11 +45,12 @@ layout_text-more old mid new shapes i other within so_far one =
     two_pieces old mid new (flat_map show (layout_answers 0 front)) (show (line i (seen_shape shape))) so_far one ∙ ap (λ t. old ++ t) (sym shown)
 
 -- a state that has a part is answered by its lines
-pub layout-answered : (s : State) (old new : List ℕ) → 1 ≤ length s.parts → new ≡ old ++ flat_map show (layout_answers 0 (layout s.parts)) → IsAnswered (performed s Layout) s old new
-layout-answered s old new some appended = by s.parts refl
+pub layout-answered : (s : ScriptState) (old new : List ℕ) → 1 ≤ length s.engine.parts → new ≡ old ++ flat_map show (layout_answers 0 (layout s.engine.parts))
+    → IsAnswered (performed s Layout) s old new
+layout-answered s old new some appended = by s.engine.parts refl
   where
-    by : (ps : List parts.Part) → s.parts ≡ ps → IsAnswered (performed s Layout) s old new
+    by : (ps : List parts.Part) → s.engine.parts ≡ ps → IsAnswered (performed s Layout) s old new
     by [] none = absurd (omega (arith, ap length none))
     by (p ∷ ps) are =
-        taken_all old new s s Layout laid_out (step s engine.Layout) refl (engine.Parts (layout s.parts)) (line 0 (part_shape p)) (layout_answers 1 (layout ps)) (step-layout s)
-        (ap (λ l. layout_answers 0 (layout l)) are) (appended ∙ ap (λ l. old ++ flat_map show (layout_answers 0 (layout l))) are)
+        taken_all old new s s refl Layout laid_out (step s.engine engine.Layout) refl s.engine (engine.Parts (layout s.engine.parts)) (line 0 (part_shape p)) (layout_answers 1 (layout ps))
+        (step-layout s.engine) (ap (λ l. layout_answers 0 (layout l)) are) (appended ∙ ap (λ l. old ++ flat_map show (layout_answers 0 (layout l))) are)

@@ -1,5 +1,8 @@
 -- What each module of lemmas speaks of.
 pub mod StepLaws
+pub mod NamedLaws
+pub mod TxnLaws
+pub mod BegunLaws
 pub mod PartLaws
 pub mod LayoutLaws
 pub mod LineLaws

@@ -5,13 +5,12 @@ use Rattle.std.proofs.lemmas.Bool.Decides.{nat_tests}
 use Rattle.script_run.proofs.LineLaws.{up_to-more}
 use Rattle.mvcc_key.specs.Cutting.{pieces}
 use Rattle.mvcc_key.proofs.CuttingLaws.{pieces_some, pieces-append}
-use Rattle.mvcc_engine.specs.Step.{State, first_state}
-use Rattle.script_text.specs.CommandLine.{Options}
-use Rattle.script_run.specs.Output.{Carried, carry_out, text_of, output_from, without_empty_end, lines, script_output, up_to_newline, whole_part}
+use Rattle.script_line.specs.CommandLine.{Options}
+use Rattle.script_run.specs.Output.{ScriptState, first_script_state, Carried, carry_out, text_of, output_from, without_empty_end, lines, script_output, up_to_newline, whole_part}
 
 module _ (options : Options) where
   -- the text of lines begins that of these and more lines
-  output_from-begins : (s : State) (n : ℕ) (ls more : List (List ℕ)) → (rest : List ℕ) × (output_from options.stats s n (ls ++ more) ≡ output_from options.stats s n ls ++ rest)
+  output_from-begins : (s : ScriptState) (n : ℕ) (ls more : List (List ℕ)) → (rest : List ℕ) × (output_from options.stats s n (ls ++ more) ≡ output_from options.stats s n ls ++ rest)
   unfolding output_from
   output_from-begins s n [] more = (output_from options.stats s n more, refl)
   output_from-begins s n (l ∷ ls) more =
@@ -41,9 +40,9 @@ module _ (options : Options) where
   newline-begins : (xs ys : List ℕ) → (rest : List ℕ) × (script_output options (xs ++ 0x0a ∷ ys) ≡ script_output options (xs ++ 0x0a ∷ []) ++ rest)
   unfolding script_output lines
   newline-begins xs ys =
-      let more = output_from-begins (first_state options.count_max) 1 (newline_pieces xs) (lines ys) in
+      let more = output_from-begins (first_script_state options.count_max) 1 (newline_pieces xs) (lines ys) in
       let short : lines (xs ++ 0x0a ∷ []) ≡ newline_pieces xs = lines-append xs [] ∙ append-nil (newline_pieces xs) in
-      (more.0, ap (output_from options.stats (first_state options.count_max) 1) (lines-append xs ys) ∙ more.1 ∙ ap (λ ls. output_from options.stats (first_state options.count_max) 1 ls ++ more.0) (sym short))
+      (more.0, ap (output_from options.stats (first_script_state options.count_max) 1) (lines-append xs ys) ∙ more.1 ∙ ap (λ ls. output_from options.stats (first_script_state options.count_max) 1 ls ++ more.0) (sym short))
 
   -- the whole lines are none, or all up to a newline
   whole_part-cut : (xs : List ℕ) → (whole_part xs ≡ []) ⊎ ((ws : List ℕ) × (zs : List ℕ) × (xs ≡ ws ++ 0x0a ∷ zs) × (whole_part xs ≡ ws ++ 0x0a ∷ []))

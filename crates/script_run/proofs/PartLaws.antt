@@ -10,9 +10,9 @@ use Rattle.mvcc_key.specs.declared.memory.OutOfMemory.{OutOfMemory}
 use Rattle.stat_core.specs.ComputeStats.{overflowing}
 use Rattle.lsm_store.specs.Parts.{Part, Stage, after_batch, is_empty_part, empty_part, flushed, compacted}
 use Rattle.read_rule.specs.Read.{get}
-use Rattle.write_rule.specs.Write as rule
+use Rattle.stat_delta.specs.Moments.{stored_walls, greatest}
 use Rattle.write_rule.specs.Write.{write}
-use Rattle.mvcc_engine.specs.Step.{State, Command, Put, Delete, Age, Flush, Compact, Get, Stats, Layout, Reply, Finished, Got, Stepped, statistics, stored_walls, greatest, unless_overflow, settled, parts_after, stage, read_at, write_at, deleted, change, step}
+use Rattle.mvcc_engine.specs.Step.{State, Command, Write, Age, Flush, Compact, Get, Stats, Layout, Reply, Finished, Wrote, Got, Stepped, statistics, unless_overflow, settled, parts_after, stage, read_at, change, step}
 use Rattle.mvcc_engine.specs.views.Seen.{Answers, AnswersAge, AnswersUnlessFull}
 use Rattle.mvcc_engine.specs.declared.refusal.Refusal.{Refusal}
 use Rattle.mvcc_engine.specs.declared.refusal.AgeFault.{AgeFault}
@@ -65,8 +65,7 @@ change-part s reply written some =
 -- a step leaves a part
 step-part : (s : State) (c : Command) → HasPart s → IfOk (step s c) LeavesPart
 unfolding step
-step-part s (Put key ts value) some = change-part s (λ done. Finished) (write s.history key (write_at ts (rule.Put value))) some
-step-part s (Delete key ts) some = change-part s deleted (write s.history key (write_at ts rule.Delete)) some
+step-part s (Write key request) some = change-part s Wrote (write s.history key request) some
 step-part s (Age now) some =
     then-part (unless_fault (nat_lt now s.last) (refusals.MomentTooEarly s.last) now) (λ later. settled s s.history now s.parts Finished)
     (λ later. settled-part s s.history now s.parts Finished some)

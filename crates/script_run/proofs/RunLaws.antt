@@ -6,7 +6,7 @@ use Rattle.std.proofs.KnownBytes.{starts_with_rest}
 use Rattle.std.proofs.Common.{refl, sym, ap, ◌∙◌, subst, arith, append_assoc, length-append, take-append-drop, inl, inr}
 use Rattle.std.proofs.Math.Seq.{take-append_seam}
 use Rattle.io_edge.specs.Writing.{AppendsBeginning}
-use Rattle.script_text.specs.CommandLine.{Options, Run, invocation}
+use Rattle.script_line.specs.CommandLine.{Options, Run, invocation}
 use Rattle.script_run.specs.Output.{output, script_output, whole_part}
 use Rattle.script_run.specs.Promise.{WritesAll, WritesWholeLines, WritesBeginning, script_max}
 use Rattle.script_run.specs.views.Ending.{AnswersAs, EndsAs, status_after}

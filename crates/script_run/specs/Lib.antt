@@ -1,3 +1,4 @@
+pub mod Named
 pub mod Output
 pub mod Promise
 pub mod views

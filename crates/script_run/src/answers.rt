@@ -11,7 +11,7 @@ use crate::script::first_line;
 use crate::session::Session;
 use io_edge::{Failed, Sink, write_all};
 use mvcc_key::OutOfMemory;
-use script_text::Options;
+use script_line::Options;
 use std::alloc::Global;
 
 /// About how many bytes of answers are gathered before they are written.

@@ -2,9 +2,12 @@
 #![tactic(auto)]
 
 mod answers;
+mod change;
 mod program;
 mod script;
 mod session;
+mod stop;
+mod txns;
 
 pub use program::{Status, run};
 

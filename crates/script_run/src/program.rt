@@ -1,7 +1,7 @@
 //! The top call: a script is read and carried out, and its answers are written.
 ghost use Rattle.std.specs.Prelude.{◌≡◌, ◌≤◌, ◌⊎◌, IsNone, IsSome, IfSome, length, map, string_bytes};
 ghost use Rattle.io_edge.specs.Causes.{Rose};
-ghost use Rattle.script_text.specs.CommandLine.{invocation};
+ghost use Rattle.script_line.specs.CommandLine.{invocation};
 ghost use Rattle.script_run.specs.Promise.{TakesWithin, WritesAll, WritesBeginning, WritesWholeLines, script_max};
 ghost use Rattle.script_run.specs.Output.{output, script_output};
 ghost use Rattle.script_run.specs.views.Ending.{AnswersAs, EndsAs, number_of, status_after};
@@ -10,7 +10,7 @@ use crate::answers::{WriteStop, write_answers};
 use crate::script::{ReadStop, SCRIPT_MAX, read_script, whole_part};
 use io_edge::{Sink, Source};
 use mvcc_key::OutOfMemory;
-use script_text::{Options, read_command_line};
+use script_line::{Options, read_command_line};
 use std::alloc::Global;
 use std::thread::Threads;
 

@@ -1,59 +1,72 @@
 //! What a script has made so far, and what one line does to it.
-ghost use Rattle.std.specs.Prelude.{◌≡◌, ◌++◌, ◌<◌, ◌≤◌, ◌^◌, OnOk, OnErr, MatchResult, Some, None, cond, false, [], map};
+ghost use Rattle.std.specs.Prelude.{◌≡◌, ◌≤◌, ◌<◌, ◌+◌, ◌-◌, ◌^◌, [], ◌++◌, false, cond, OnOk, OnErr, map};
+ghost use Rattle.std.specs.Option.{option_map, unwrap_or};
+ghost use Rattle.std.specs.Int.{w128, to_be_bytes};
 ghost use Rattle.std.specs.List.{flat_map};
-ghost use Rattle.std.specs.Option.{option_map};
 ghost use Rattle.lsm_store.specs.views.Seen.{seen_shape};
-ghost use Rattle.mvcc_key.specs.History.{Bytes};
 ghost use Rattle.mvcc_key.specs.views.Seen.{time_of};
-ghost use Rattle.mvcc_engine.specs.views.Seen.{refusal_of};
-ghost use Rattle.mvcc_engine.specs.Step.{first_state};
-ghost use Rattle.script_text.specs.Grammar.{Age, Compact, Del, Flush, Get, Layout, Put, Stats};
-ghost use Rattle.script_text.specs.Text.{ByEngine, show};
+ghost use Rattle.mvcc_value.specs.views.Seen.{plain_body};
+ghost use Rattle.script_line.specs.Grammar as grammar;
+ghost use Rattle.script_line.specs.Grammar.{Age, Compact, ConditionalPut, Del, Flush, Get, Increment, InitPut, Layout, Put, Stats, TxnBegin, TxnRemove};
+ghost use Rattle.script_text.specs.Text.{show};
 ghost use Rattle.script_text.specs.views.Appending.{Extends};
-ghost use Rattle.script_text.specs.views.Seen.{reason_of};
-ghost use Rattle.script_text.specs.views.SeenLine.{is_blank, line_of};
-ghost use Rattle.script_run.specs.Output.{carry_out, layout_answers, performed, statistics_answer, text_of};
-ghost use Rattle.script_run.specs.views.Answered.{Carries, IsAnswered};
+ghost use Rattle.script_line.specs.views.SeenLine.{body_of, is_blank, line_of, who_of};
+ghost use Rattle.script_run.specs.Output.{carry_out, first_script_state, layout_answers, perform, performed, statistics_answer, text_of, with_txn};
+ghost use Rattle.script_run.specs.views.Answered.{Carries, IsAnswered, TellsRefusal};
+ghost use Rattle.script_run.specs.views.Changed.{rule_of};
+ghost use Rattle.script_run.specs.views.Told.{told_by};
 
+use crate::change::TxnChange;
 use crate::script::without_return;
-use mvcc_engine::{Engine, PartShape, Refusal};
-use mvcc_key::{OutOfMemory, Timestamp};
+use crate::stop::{CommandStop, reason_of};
+use crate::txns::Txns;
+use mvcc_engine::{Engine, PartShape};
+use mvcc_key::{Looks, OutOfMemory, Timestamp};
 use mvcc_value::PlainValue;
-use script_text::{Answer, Line, LineFault, Options, Reason, parse_line, show};
+use script_line::{Line, LineFault, Options, Value, Who, parse_line};
+use script_text::{Answer, Reason, show};
 use std::alloc::Global;
-use std::marker::Model;
+use std::marker::{Brand, Model};
+use std::sync::ledger::{Blank, Ledger};
+use txn_state::Txn;
+use uuid::Uuid;
 
 /// The state of a run. Contracts see it as the state of the definitions, which always has a part, the memory table.
 #[derive(Drop)]
 pub struct Session {
     alloc: Global,
     engine: Engine,
+    txns: Txns,
+    /// How many transactions were begun.
+    begun: u64,
 }
 
 impl Model for Session {
-    ghost use Rattle.mvcc_engine.specs.Step.{State};
     ghost use Rattle.std.specs.Prelude.{◌≤◌, length};
+    ghost use Rattle.script_run.specs.Output.{ScriptState};
 
-    ghost Value = { State };
+    ghost Value = { ScriptState };
 
-    ghost view = { λ s. s.engine };
+    ghost view = { λ s. record { engine = s.engine; txns = s.txns; begun = s.begun } };
 
     ghost invariant = { λ s. 1 ≤ length s.engine.parts };
 }
 
 impl Session {
-    /// Nothing is stored.
+    /// Nothing is stored, and no transaction was begun.
     pub fn new(alloc: Global, options: Options) -> Self
-        ensures { result ≡ first_state options.count_max }
+        ensures { result ≡ first_script_state options.count_max }
     {
         Session {
             alloc,
             engine: Engine::new(alloc, options.count_max()),
+            txns: Txns::new(alloc),
+            begun: 0,
         }
     }
 
     /// Carries out a line, counted from 1, and appends the text of its answers, with that of the statistics where they are wanted
-    /// and the line is a command. Where memory is wanting the text stays as it was.
+    /// and the line is a command. Where memory is wanting the text stays as it was. Each line begins at most one transaction.
     pub fn carry_out(
         &mut self,
         options: Options,
@@ -61,6 +74,7 @@ impl Session {
         line: &[u8],
         text: &mut Vec<u8>,
     ) -> Result<(), OutOfMemory>
+        requires { self.old.begun < number }
         ensures state { OnOk result (self.new ≡ (carry_out self.old number line.now).state) }
         ensures answer { OnOk result (text.new.items ≡ text.old.items ++ text_of options.stats (carry_out self.old number line.now)) }
         ensures err { OnErr result (text.new.items ≡ text.old.items) }
@@ -83,6 +97,7 @@ impl Session {
         line: &[u8],
         text: &mut Vec<u8>,
     ) -> Result<(), OutOfMemory>
+        requires { self.old.begun < number }
         ensures state { OnOk result (self.new ≡ (carry_out self.old number line.now).state) }
         ensures answer { OnOk result (text.new.items ≡ text.old.items ++ text_of options.stats (carry_out self.old number line.now)) }
         ensures err { OnErr result (Extends text.old.items text.new.items) }
@@ -104,7 +119,7 @@ impl Session {
 
     /// Appends the text of the statistics, where they are wanted.
     fn show_statistics(&self, options: Options, text: &mut Vec<u8>) -> Result<(), OutOfMemory>
-        ensures ok { OnOk result (text.new.items ≡ text.old.items ++ cond options.stats (show (statistics_answer self.now)) []) }
+        ensures ok { OnOk result (text.new.items ≡ text.old.items ++ cond options.stats (show (statistics_answer self.now.engine)) []) }
         ensures err { OnErr result (text.new.items ≡ text.old.items) }
     {
         if options.stats() {
@@ -115,29 +130,88 @@ impl Session {
 
     /// Does what a command says, and appends the text of its answers or of its refusal.
     fn command(&mut self, line: &Line<'_>, text: &mut Vec<u8>) -> Result<(), OutOfMemory>
-        requires { is_blank (line_of line.now) ≡ false }
+        requires said { is_blank (line_of line.now) ≡ false }
+        requires room { self.old.begun < 2 ^ 64 - 1 }
         ensures ok { OnOk result (IsAnswered (performed self.old (line_of line.now)) self.new text.old.items text.new.items) }
         ensures err { OnErr result (Extends text.old.items text.new.items) }
     {
-        match self.perform(line, text) {
+        match self.perform_from::<Brand>(line, text, Blank::new(1)) {
             Ok(()) => Ok(()),
-            Err(why) => {
-                let why = reason_of(why)?;
-                show(self.alloc, &Answer::Refused(why), text)
-            }
+            Err(stop) => show_refusal(self.alloc, stop, text),
         }
     }
 
+    /// Does what a command says, with the engine's looks in a ledger of their own.
+    fn perform_from<L: Ledger>(
+        &mut self,
+        line: &Line<'_>,
+        text: &mut Vec<u8>,
+        blank: Blank,
+    ) -> Result<(), CommandStop>
+        requires said { is_blank (line_of line.now) ≡ false }
+        requires room { self.old.begun < 2 ^ 64 - 1 }
+        requires name { blank.name ≡ L.name }
+        requires parts { blank.parts ≡ L.parts }
+        requires some { 0 < blank.parts }
+        ensures { Carries result (performed self.old (line_of line.now)) self.old self.new text.old.items text.new.items }
+    {
+        self.perform(line, text, &mut Looks::<L>::new(blank))
+    }
+
     /// Does what a command says, and appends the text of its answers, or tells why it is refused.
-    fn perform(&mut self, line: &Line<'_>, text: &mut Vec<u8>) -> Result<(), Refusal>
-        requires { is_blank (line_of line.now) ≡ false }
+    fn perform<L: Ledger>(
+        &mut self,
+        line: &Line<'_>,
+        text: &mut Vec<u8>,
+        looks: &mut Looks<L>,
+    ) -> Result<(), CommandStop>
+        requires said { is_blank (line_of line.now) ≡ false }
+        requires room { self.old.begun < 2 ^ 64 - 1 }
         ensures { Carries result (performed self.old (line_of line.now)) self.old self.new text.old.items text.new.items }
     {
         match line {
             Line::Blank => Ok(()),
-            Line::Put { key, ts, value } => self.put(key.as_slice(), *ts, value.as_slice(), text),
+            Line::TxnBegin {
+                name,
+                ts,
+                limit,
+                id,
+            } => self.begin_txn(name, *ts, *limit, *id, text),
+            Line::TxnStep { name, n } => self.change_txn(name, TxnChange::Step(*n), text),
+            Line::TxnAdvance { name, ts } => self.change_txn(name, TxnChange::Advance(*ts), text),
+            Line::TxnRestart { name, ts } => self.change_txn(name, TxnChange::Restart(*ts), text),
+            Line::TxnRefresh { name } => self.change_txn(name, TxnChange::Refresh, text),
+            Line::TxnIgnoreSeqs { name, ranges } => {
+                self.change_txn(name, TxnChange::IgnoreSeqs(ranges.as_slice()), text)
+            }
+            Line::TxnRemove { name } => self.remove_txn(name, text),
+            Line::Put { key, value, who } => {
+                self.put(key.as_slice(), value.as_plain(), *who, text, looks)
+            }
+            Line::Del { key, who } => self.delete(key.as_slice(), *who, text, looks),
+            Line::ConditionalPut {
+                key,
+                value,
+                who,
+                expected,
+            } => {
+                let expected = as_plain(expected.as_ref());
+                self.conditional_put(
+                    key.as_slice(),
+                    value.as_plain(),
+                    *who,
+                    expected,
+                    text,
+                    looks,
+                )
+            }
+            Line::InitPut { key, value, who } => {
+                self.init_put(key.as_slice(), value.as_plain(), *who, text, looks)
+            }
+            Line::Increment { key, who, by } => {
+                self.increment(key.as_slice(), *who, *by, text, looks)
+            }
             Line::Get { key, ts } => self.get(key.as_slice(), *ts, text),
-            Line::Del { key, ts } => self.delete(key.as_slice(), *ts, text),
             Line::Age { now } => self.age(now.nanos, text),
             Line::Stats => self.stats(text),
             Line::Flush => self.flush(text),
@@ -146,21 +220,143 @@ impl Session {
         }
     }
 
-    fn put(
+    fn begin_txn(
         &mut self,
-        key: &[u8],
+        name: &str,
         ts: Timestamp,
-        value: &[u8],
+        limit: Timestamp,
+        id: Option<Uuid>,
         text: &mut Vec<u8>,
-    ) -> Result<(), Refusal>
-        ensures { Carries result (performed self.old (Put key.now (time_of ts) (Bytes value.now))) self.old self.new text.old.items text.new.items }
+    ) -> Result<(), CommandStop>
+        requires { self.old.begun < 2 ^ 64 - 1 }
+        ensures { Carries result (performed self.old (TxnBegin name.now (time_of ts) (time_of limit) id)) self.old self.new text.old.items text.new.items }
     {
-        self.engine.put_at(key, PlainValue::Bytes(value), ts)?;
+        if self.txns.find(name).is_some() {
+            return Err(CommandStop::TxnExists);
+        }
+        let id = new_id(id, self.begun);
+        let txn = Txn::begin(self.alloc, id, ts, limit);
+        show(self.alloc, &Answer::TxnLine { name, txn: &txn }, text)?;
+        self.txns.keep(self.alloc, name, txn)?;
+        self.begun += 1;
+        Ok(())
+    }
+
+    /// Changes the transaction of the name, for a line that says so.
+    fn change_txn(
+        &mut self,
+        name: &str,
+        change: TxnChange<'_>,
+        text: &mut Vec<u8>,
+    ) -> Result<(), CommandStop>
+        ensures { (line : grammar.Line) → perform self.old line ≡ with_txn self.old name.now (rule_of change.entry)
+            → Carries result (performed self.old line) self.old self.new text.old.items text.new.items }
+    {
+        match self.txns.find_mut(name) {
+            Some(txn) => {
+                change.make(txn)?;
+                show(self.alloc, &Answer::TxnLine { name, txn }, text)?;
+                Ok(())
+            }
+            None => Err(CommandStop::NoTxn),
+        }
+    }
+
+    fn remove_txn(&mut self, name: &str, text: &mut Vec<u8>) -> Result<(), CommandStop>
+        ensures { Carries result (performed self.old (TxnRemove name.now)) self.old self.new text.old.items text.new.items }
+    {
+        if !self.txns.remove(name) {
+            return Err(CommandStop::NoTxn);
+        }
         show(self.alloc, &Answer::Accepted, text)?;
         Ok(())
     }
 
-    fn get(&mut self, key: &[u8], ts: Timestamp, text: &mut Vec<u8>) -> Result<(), Refusal>
+    fn put<L: Ledger>(
+        &mut self,
+        key: &[u8],
+        value: PlainValue<'_>,
+        who: Who<'_>,
+        text: &mut Vec<u8>,
+        looks: &mut Looks<L>,
+    ) -> Result<(), CommandStop>
+        ensures { Carries result (performed self.old (Put key.now (plain_body value.entry) (who_of who.entry))) self.old self.new text.old.items text.new.items }
+    {
+        let writer = self.txns.actor(who)?;
+        self.engine.put(writer, key, value, Timestamp::NONE, looks)?;
+        show(self.alloc, &Answer::Accepted, text)?;
+        Ok(())
+    }
+
+    fn delete<L: Ledger>(
+        &mut self,
+        key: &[u8],
+        who: Who<'_>,
+        text: &mut Vec<u8>,
+        looks: &mut Looks<L>,
+    ) -> Result<(), CommandStop>
+        ensures { Carries result (performed self.old (Del key.now (who_of who.entry))) self.old self.new text.old.items text.new.items }
+    {
+        let writer = self.txns.actor(who)?;
+        let found = self.engine.delete(writer, key, Timestamp::NONE, looks)?;
+        show(self.alloc, &Answer::Deleted { found }, text)?;
+        Ok(())
+    }
+
+    fn conditional_put<L: Ledger>(
+        &mut self,
+        key: &[u8],
+        value: PlainValue<'_>,
+        who: Who<'_>,
+        expected: Option<PlainValue<'_>>,
+        text: &mut Vec<u8>,
+        looks: &mut Looks<L>,
+    ) -> Result<(), CommandStop>
+        ensures { Carries result (performed self.old (ConditionalPut key.now (plain_body value.entry) (who_of who.entry) (option_map plain_body expected.entry))) self.old self.new text.old.items text.new.items }
+    {
+        let writer = self.txns.actor(who)?;
+        self.engine
+            .conditional_put(writer, key, value, expected, Timestamp::NONE, looks)?;
+        show(self.alloc, &Answer::Accepted, text)?;
+        Ok(())
+    }
+
+    fn init_put<L: Ledger>(
+        &mut self,
+        key: &[u8],
+        value: PlainValue<'_>,
+        who: Who<'_>,
+        text: &mut Vec<u8>,
+        looks: &mut Looks<L>,
+    ) -> Result<(), CommandStop>
+        ensures { Carries result (performed self.old (InitPut key.now (plain_body value.entry) (who_of who.entry))) self.old self.new text.old.items text.new.items }
+    {
+        let writer = self.txns.actor(who)?;
+        self.engine
+            .init_put(writer, key, value, Timestamp::NONE, looks)?;
+        show(self.alloc, &Answer::Accepted, text)?;
+        Ok(())
+    }
+
+    fn increment<L: Ledger>(
+        &mut self,
+        key: &[u8],
+        who: Who<'_>,
+        by: i64,
+        text: &mut Vec<u8>,
+        looks: &mut Looks<L>,
+    ) -> Result<(), CommandStop>
+        ensures { Carries result (performed self.old (Increment key.now (who_of who.entry) by)) self.old self.new text.old.items text.new.items }
+    {
+        let writer = self.txns.actor(who)?;
+        let number = self
+            .engine
+            .increment(writer, key, by, Timestamp::NONE, looks)?;
+        show(self.alloc, &Answer::Incremented(number), text)?;
+        Ok(())
+    }
+
+    fn get(&mut self, key: &[u8], ts: Timestamp, text: &mut Vec<u8>) -> Result<(), CommandStop>
         ensures { Carries result (performed self.old (Get key.now (time_of ts))) self.old self.new text.old.items text.new.items }
     {
         let found = self.engine.get_at(key, ts)?;
@@ -168,15 +364,7 @@ impl Session {
         Ok(())
     }
 
-    fn delete(&mut self, key: &[u8], ts: Timestamp, text: &mut Vec<u8>) -> Result<(), Refusal>
-        ensures { Carries result (performed self.old (Del key.now (time_of ts))) self.old self.new text.old.items text.new.items }
-    {
-        let found = self.engine.delete_at(key, ts)?;
-        show(self.alloc, &Answer::Deleted { found }, text)?;
-        Ok(())
-    }
-
-    fn age(&mut self, now: u64, text: &mut Vec<u8>) -> Result<(), Refusal>
+    fn age(&mut self, now: u64, text: &mut Vec<u8>) -> Result<(), CommandStop>
         requires { now < 2 ^ 63 }
         ensures { Carries result (performed self.old (Age now)) self.old self.new text.old.items text.new.items }
     {
@@ -185,14 +373,14 @@ impl Session {
         Ok(())
     }
 
-    fn stats(&self, text: &mut Vec<u8>) -> Result<(), Refusal>
+    fn stats(&self, text: &mut Vec<u8>) -> Result<(), CommandStop>
         ensures { Carries result (performed self.now Stats) self.now self.now text.old.items text.new.items }
     {
         show(self.alloc, &Answer::Statistics(&self.engine.stats()), text)?;
         Ok(())
     }
 
-    fn flush(&mut self, text: &mut Vec<u8>) -> Result<(), Refusal>
+    fn flush(&mut self, text: &mut Vec<u8>) -> Result<(), CommandStop>
         ensures { Carries result (performed self.old Flush) self.old self.new text.old.items text.new.items }
     {
         self.engine.flush()?;
@@ -200,7 +388,7 @@ impl Session {
         Ok(())
     }
 
-    fn compact(&mut self, keep: u64, text: &mut Vec<u8>) -> Result<(), Refusal>
+    fn compact(&mut self, keep: u64, text: &mut Vec<u8>) -> Result<(), CommandStop>
         requires { 1 ≤ keep }
         ensures { Carries result (performed self.old (Compact keep)) self.old self.new text.old.items text.new.items }
     {
@@ -209,7 +397,7 @@ impl Session {
         Ok(())
     }
 
-    fn layout(&self, text: &mut Vec<u8>) -> Result<(), Refusal>
+    fn layout(&self, text: &mut Vec<u8>) -> Result<(), CommandStop>
         ensures { Carries result (performed self.now Layout) self.now self.now text.old.items text.new.items }
     {
         let shapes = self.engine.layout()?;
@@ -235,19 +423,32 @@ fn show_layout(alloc: Global, shapes: &[PartShape], text: &mut Vec<u8>) -> Resul
     Ok(())
 }
 
-/// The reason that a refusal tells; want of memory is none.
-fn reason_of(why: Refusal) -> Result<Reason, OutOfMemory>
-    ensures { MatchResult result (λ reason. option_map ByEngine (refusal_of why) ≡ Some (reason_of reason)) (λ _. refusal_of why ≡ None) }
+/// Appends the reason that a command is refused for. Where memory is wanting the text stays as it was.
+fn show_refusal(alloc: Global, stop: CommandStop, text: &mut Vec<u8>) -> Result<(), OutOfMemory>
+    ensures ok { OnOk result (TellsRefusal (told_by stop) text.old.items text.new.items) }
+    ensures err { OnErr result (text.new.items ≡ text.old.items) }
 {
-    let refusal = match why {
-        Refusal::OutOfMemory => return Err(OutOfMemory),
-        Refusal::EmptyKey => script_text::Refusal::EmptyKey,
-        Refusal::KeyTooLong(length) => script_text::Refusal::KeyTooLong(length),
-        Refusal::ValueTooLong(length) => script_text::Refusal::ValueTooLong(length),
-        Refusal::BadTimestamp => script_text::Refusal::BadTimestamp,
-        Refusal::TooOld(existing) => script_text::Refusal::TooOld(existing),
-        Refusal::MomentTooEarly(latest) => script_text::Refusal::MomentTooEarly(latest),
-        Refusal::CountOverflow(field) => script_text::Refusal::CountOverflow(field),
-    };
-    Ok(Reason::ByEngine(refusal))
+    let why = reason_of(&stop)?;
+    show(alloc, &Answer::Refused(why), text)?;
+    Ok(())
+}
+
+/// The id that a transaction begins with: the given one, or the number of those begun before it, plus one.
+fn new_id(given: Option<Uuid>, begun: u64) -> Uuid
+    ensures { result ≡ unwrap_or given (to_be_bytes w128 (begun + 1)) }
+{
+    match given {
+        Some(id) => id,
+        None => Uuid::from_u128(u128::from(begun) + 1),
+    }
+}
+
+/// The value, with its bytes lent.
+fn as_plain<'a>(value: Option<&'a Value<'_>>) -> Option<PlainValue<'a>>
+    ensures { option_map plain_body result ≡ option_map (λ v. body_of v.now) value.entry }
+{
+    match value {
+        Some(value) => Some(value.as_plain()),
+        None => None,
+    }
 }

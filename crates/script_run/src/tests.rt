@@ -3,7 +3,9 @@ ghost use Rattle.std.specs.Prelude.{◌≤◌};
 use super::*;
 use io_edge::{MemSink, MemSource, SureSink, SureSource};
 use std::alloc::{AllocError, Global};
+use std::process::Abort;
 use std::test::Fail;
+use std::thread::Threads;
 
 const PUT_AND_GET: &[u8] = b"put k=a ts=1 v=abc\nget k=a ts=1\n";
 
@@ -35,6 +37,28 @@ fn padded(alloc: Global, script: &[u8], byte: u8, size: usize) -> Result<Vec<u8>
     let mut padded = Vec::from_slice(alloc, script)?;
     padded.resize(size, byte)?;
     Ok(padded)
+}
+
+/// Asserts that a run of the script, whose bytes come and go in pieces of this size, writes these answers. Where an allocation is
+/// refused the run is not `Done`, and a beginning of them is written.
+fn assert_answers<R: Abort + Threads + Sync>(
+    rt: &R,
+    alloc: Global,
+    line: &str,
+    script: &[u8],
+    piece: usize,
+    answers: &[u8],
+) -> Result<(), Fail>
+    requires { 1 ≤ piece }
+{
+    let words = words(alloc, line)?;
+    let mut source = source(alloc, script, piece, &[])?;
+    let mut sink = MemSink::new(alloc, 5_000, piece, Vec::new(alloc))?;
+    let status = run(rt, alloc, &words, &mut source, &mut sink);
+    assert!(rt; answers.starts_with(sink.bytes()));
+    assert!(rt; status == Status::Done);
+    assert_eq!(rt; sink.bytes(), answers);
+    Ok(())
 }
 
 #[test]
@@ -91,14 +115,9 @@ fn scripts_get_their_answers(rt: HostRuntime) -> Result<(), Fail> {
             b"error: BadLine line=1\nerror: BadLine line=2\nerror: BadLine line=3\nerror: BadLine line=4\nerror: BadLine line=5\nerror: BadLine line=6\nerror: BadLine line=7\nerror: BadLine line=8\nerror: BadLine line=9\nok\n",
         ),
     ];
-    let words = words(rt.alloc(), "run")?;
     for piece in [1, 7, 100_000] {
         for (script, answers) in cases {
-            let mut source = source(rt.alloc(), script, piece, &[])?;
-            let mut sink = MemSink::new(rt.alloc(), 1_000, piece, Vec::new(rt.alloc()))?;
-            let status = run(&rt, rt.alloc(), &words, &mut source, &mut sink);
-            assert!(rt; status == Status::Done);
-            assert_eq!(rt; sink.bytes(), answers);
+            assert_answers(&rt, rt.alloc(), "run", script, piece, answers)?;
         }
     }
     Ok(())
@@ -231,12 +250,72 @@ fn statistics_are_a_recount(rt: HostRuntime) -> Result<(), Fail> {
         ),
     ];
     for (line, script, answers) in cases {
-        let words = words(rt.alloc(), line)?;
-        let mut source = source(rt.alloc(), script, 100, &[])?;
-        let mut sink = MemSink::new(rt.alloc(), 5_000, 100, Vec::new(rt.alloc()))?;
-        let status = run(&rt, rt.alloc(), &words, &mut source, &mut sink);
-        assert!(rt; status == Status::Done);
-        assert_eq!(rt; sink.bytes(), answers);
+        assert_answers(&rt, rt.alloc(), line, script, 100, answers)?;
+    }
+    Ok(())
+}
+
+#[test]
+fn transactions_write_intents(rt: HostRuntime) -> Result<(), Fail> {
+    let cases: [(&str, &[u8], &[u8]); 11] = [
+        (
+            "run",
+            b"txn_begin t=A ts=2\nput t=A k=a v=abc\nstats\nput t=A k=a v=abc\nstats\nput t=A k=a v=x\ntxn_step t=A n=2\nput t=A k=a v=de\ntxn_begin t=B ts=2 id=00000000-0000-0000-0000-000000000001\ntxn_step t=B\nput t=B k=a v=de\nput k=a ts=9 v=z\n",
+            b"txn: \"A\" id=00000000-0000-0000-0000-000000000001 epoch=0 seq=0 read=2.000000000,0 write=2.000000000,0 limit=0.000000000,0 ignored=none\nok\nstats: key_count=1 key_bytes=14 val_count=1 val_bytes=53 live_count=1 live_bytes=67 intent_count=1 intent_bytes=20 intent_age=0 gc_bytes_age=0 range_key_count=0 range_key_bytes=0 range_val_count=0 range_val_bytes=0 last_update_nanos=2000000000\nok\nstats: key_count=1 key_bytes=14 val_count=1 val_bytes=53 live_count=1 live_bytes=67 intent_count=1 intent_bytes=20 intent_age=0 gc_bytes_age=0 range_key_count=0 range_key_bytes=0 range_val_count=0 range_val_bytes=0 last_update_nanos=2000000000\nerror: ReplayMismatch stored=/BYTES/abc\ntxn: \"A\" id=00000000-0000-0000-0000-000000000001 epoch=0 seq=2 read=2.000000000,0 write=2.000000000,0 limit=0.000000000,0 ignored=none\nok\ntxn: \"B\" id=00000000-0000-0000-0000-000000000001 epoch=0 seq=0 read=2.000000000,0 write=2.000000000,0 limit=0.000000000,0 ignored=none\ntxn: \"B\" id=00000000-0000-0000-0000-000000000001 epoch=0 seq=1 read=2.000000000,0 write=2.000000000,0 limit=0.000000000,0 ignored=none\nerror: ReplayMissing sequence=1\nerror: Conflict \"a\"/00000000-0000-0000-0000-000000000001@2.000000000,0\n",
+        ),
+        (
+            "run",
+            b"txn_begin t=A ts=2\nput t=A k=a v=abc\nstats\ntxn_step t=A\nput t=A k=a v=de\nstats\n",
+            b"txn: \"A\" id=00000000-0000-0000-0000-000000000001 epoch=0 seq=0 read=2.000000000,0 write=2.000000000,0 limit=0.000000000,0 ignored=none\nok\nstats: key_count=1 key_bytes=14 val_count=1 val_bytes=53 live_count=1 live_bytes=67 intent_count=1 intent_bytes=20 intent_age=0 gc_bytes_age=0 range_key_count=0 range_key_bytes=0 range_val_count=0 range_val_bytes=0 last_update_nanos=2000000000\ntxn: \"A\" id=00000000-0000-0000-0000-000000000001 epoch=0 seq=1 read=2.000000000,0 write=2.000000000,0 limit=0.000000000,0 ignored=none\nok\nstats: key_count=1 key_bytes=14 val_count=1 val_bytes=68 live_count=1 live_bytes=82 intent_count=1 intent_bytes=19 intent_age=0 gc_bytes_age=0 range_key_count=0 range_key_bytes=0 range_val_count=0 range_val_bytes=0 last_update_nanos=2000000000\n",
+        ),
+        (
+            "run",
+            b"increment k=a ts=1 inc=9223372036854775807\nincrement k=a ts=2 inc=1\ntxn_begin t=A ts=3\nincrement t=A k=b inc=5\nincrement t=A k=b inc=5\nput t=A k=b v=x\nstats\n",
+            b"increment: 9223372036854775807\nerror: IntegerOverflow old=9223372036854775807 by=1\ntxn: \"A\" id=00000000-0000-0000-0000-000000000001 epoch=0 seq=0 read=3.000000000,0 write=3.000000000,0 limit=0.000000000,0 ignored=none\nincrement: 5\nincrement: 5\nerror: ReplayMismatch stored=/INT/5\nstats: key_count=2 key_bytes=28 val_count=2 val_bytes=66 live_count=2 live_bytes=94 intent_count=1 intent_bytes=18 intent_age=0 gc_bytes_age=0 range_key_count=0 range_key_bytes=0 range_val_count=0 range_val_bytes=0 last_update_nanos=3000000000\n",
+        ),
+        (
+            "run",
+            b"cput k=a ts=1 v=abc\ncput k=a ts=2 v=x\ncput k=a ts=2 v=x cond=abc\ninitput k=a ts=3 v=x\ninitput k=a ts=4 v=y\nincrement k=a ts=4\nstats\n",
+            b"ok\nerror: ConditionFailed actual=/BYTES/abc\nok\nok\nerror: ConditionFailed actual=/BYTES/x\nerror: NotInteger actual=/BYTES/x\nstats: key_count=1 key_bytes=38 val_count=3 val_bytes=20 live_count=1 live_bytes=20 intent_count=0 intent_bytes=0 intent_age=0 gc_bytes_age=20 range_key_count=0 range_key_bytes=0 range_val_count=0 range_val_bytes=0 last_update_nanos=3000000000\n",
+        ),
+        (
+            "run",
+            b"put k=a\nput k= ts=1 v=x\nput k=a ts=0 v=x\nput t=Q k=a v=x\ntxn_begin t=A ts=1\ntxn_begin t=A ts=1\ntxn_step t=A n=2147483647\ntxn_step t=A\n",
+            b"error: BadLine line=1\nerror: EmptyKey\nerror: BadTimestamp\nerror: NoTxn\ntxn: \"A\" id=00000000-0000-0000-0000-000000000001 epoch=0 seq=0 read=1.000000000,0 write=1.000000000,0 limit=0.000000000,0 ignored=none\nerror: TxnExists\ntxn: \"A\" id=00000000-0000-0000-0000-000000000001 epoch=0 seq=2147483647 read=1.000000000,0 write=1.000000000,0 limit=0.000000000,0 ignored=none\nerror: SequenceLimit sequence=2147483647\n",
+        ),
+        (
+            "run",
+            b"txn_begin t=A ts=1\nput t=A k=a v=x\ntxn_remove t=A\ntxn_step t=A\ntxn_begin t=A ts=2\nput t=A k=a v=y\ntxn_begin t=B ts=3 limit=4 id=ffffffff-ffff-ffff-ffff-ffffffffffff\ntxn_begin t=C ts=0\ntxn_remove t=A\ntxn_remove t=A\n",
+            b"txn: \"A\" id=00000000-0000-0000-0000-000000000001 epoch=0 seq=0 read=1.000000000,0 write=1.000000000,0 limit=0.000000000,0 ignored=none\nok\nok\nerror: NoTxn\ntxn: \"A\" id=00000000-0000-0000-0000-000000000002 epoch=0 seq=0 read=2.000000000,0 write=2.000000000,0 limit=0.000000000,0 ignored=none\nerror: Conflict \"a\"/00000000-0000-0000-0000-000000000001@1.000000000,0\ntxn: \"B\" id=ffffffff-ffff-ffff-ffff-ffffffffffff epoch=0 seq=0 read=3.000000000,0 write=3.000000000,0 limit=4.000000000,0 ignored=none\ntxn: \"C\" id=00000000-0000-0000-0000-000000000004 epoch=0 seq=0 read=0.000000000,0 write=0.000000000,0 limit=0.000000000,0 ignored=none\nok\nerror: NoTxn\n",
+        ),
+        (
+            "run",
+            b"txn_begin t=a-B_1 ts=5 limit=6,7\ntxn_step t=a-B_1 n=3\ntxn_advance t=a-B_1 ts=8\ntxn_advance t=a-B_1 ts=7\ntxn_ignore_seqs t=a-B_1 seqs=0-1,3-9\ntxn_ignore_seqs t=a-B_1 seqs=1-2,2-3\ntxn_refresh t=a-B_1\ntxn_restart t=a-B_1\ntxn_restart t=a-B_1 ts=9\ntxn_step t=a-B_1 n=0\n",
+            b"txn: \"a-B_1\" id=00000000-0000-0000-0000-000000000001 epoch=0 seq=0 read=5.000000000,0 write=5.000000000,0 limit=6.000000000,7 ignored=none\ntxn: \"a-B_1\" id=00000000-0000-0000-0000-000000000001 epoch=0 seq=3 read=5.000000000,0 write=5.000000000,0 limit=6.000000000,7 ignored=none\ntxn: \"a-B_1\" id=00000000-0000-0000-0000-000000000001 epoch=0 seq=3 read=5.000000000,0 write=8.000000000,0 limit=6.000000000,7 ignored=none\ntxn: \"a-B_1\" id=00000000-0000-0000-0000-000000000001 epoch=0 seq=3 read=5.000000000,0 write=8.000000000,0 limit=6.000000000,7 ignored=none\ntxn: \"a-B_1\" id=00000000-0000-0000-0000-000000000001 epoch=0 seq=3 read=5.000000000,0 write=8.000000000,0 limit=6.000000000,7 ignored=0-1,3-9\nerror: BadRanges\ntxn: \"a-B_1\" id=00000000-0000-0000-0000-000000000001 epoch=0 seq=3 read=8.000000000,0 write=8.000000000,0 limit=6.000000000,7 ignored=0-1,3-9\ntxn: \"a-B_1\" id=00000000-0000-0000-0000-000000000001 epoch=1 seq=0 read=8.000000000,0 write=8.000000000,0 limit=6.000000000,7 ignored=none\ntxn: \"a-B_1\" id=00000000-0000-0000-0000-000000000001 epoch=2 seq=0 read=9.000000000,0 write=9.000000000,0 limit=6.000000000,7 ignored=none\ntxn: \"a-B_1\" id=00000000-0000-0000-0000-000000000001 epoch=2 seq=0 read=9.000000000,0 write=9.000000000,0 limit=6.000000000,7 ignored=none\n",
+        ),
+        (
+            "run",
+            b"put k=a ts=1 int=7\ntxn_begin t=A ts=2\ndel t=A k=a\ndel t=A k=a\ntxn_step t=A\nincrement t=A k=a\ntxn_step t=A\ncput t=A k=a int=-2 cond_int=1\ninitput t=A k=a int=-2\ninitput t=A k=a int=3\nget k=a ts=1\nget k=a ts=3\nput k=a ts=1 v=x\n",
+            b"ok\ntxn: \"A\" id=00000000-0000-0000-0000-000000000001 epoch=0 seq=0 read=2.000000000,0 write=2.000000000,0 limit=0.000000000,0 ignored=none\ndel: found=true\ndel: found=true\ntxn: \"A\" id=00000000-0000-0000-0000-000000000001 epoch=0 seq=1 read=2.000000000,0 write=2.000000000,0 limit=0.000000000,0 ignored=none\nincrement: 1\ntxn: \"A\" id=00000000-0000-0000-0000-000000000001 epoch=0 seq=2 read=2.000000000,0 write=2.000000000,0 limit=0.000000000,0 ignored=none\nok\nok\nerror: ReplayMismatch stored=/INT/-2\nget: \"a\" -> /INT/7 @1.000000000,0\nerror: Conflict \"a\"/00000000-0000-0000-0000-000000000001@2.000000000,0\nerror: Conflict \"a\"/00000000-0000-0000-0000-000000000001@2.000000000,0\n",
+        ),
+        (
+            "run",
+            b"put t=A k= v=x\ndel t=A k=a\ncput t=A k=a v=x\ninitput t=A k=a v=x\nincrement t=A k=a\ntxn_step t=A n=2147483647\ntxn_advance t=A ts=1\ntxn_restart t=A\ntxn_refresh t=A\ntxn_ignore_seqs t=A seqs=2-1\ntxn_remove t=A\nput t=A ts=1 k=a v=x\nput k=a v=x\nput k=a ts=1 v=x int=1\nput t=A k=a\ncput k=a ts=1 v=x cond=y cond_int=1\ntxn_step t=A n=2147483648\ntxn_begin t=. ts=1\ntxn_begin t=A ts=1 id=1\ntxn_ignore_seqs t=A seqs=1\nincrement k=a ts=1 inc=9223372036854775808\n",
+            b"error: NoTxn\nerror: NoTxn\nerror: NoTxn\nerror: NoTxn\nerror: NoTxn\nerror: NoTxn\nerror: NoTxn\nerror: NoTxn\nerror: NoTxn\nerror: NoTxn\nerror: NoTxn\nerror: BadLine line=12\nerror: BadLine line=13\nerror: BadLine line=14\nerror: BadLine line=15\nerror: BadLine line=16\nerror: BadLine line=17\nerror: BadLine line=18\nerror: BadLine line=19\nerror: BadLine line=20\nerror: BadLine line=21\n",
+        ),
+        (
+            "run",
+            b"txn_begin t=A ts=1 id=00000000000000000000000000000002\ntxn_begin t=A ts=1\ntxn_begin t=B ts=2\nput t=A k=a v=x\nput t=B k=a v=x\ntxn_step t=B\nput t=B k=a v=y\nput t=A k=a v=x\nput t=A k=a v=y\n",
+            b"txn: \"A\" id=00000000-0000-0000-0000-000000000002 epoch=0 seq=0 read=1.000000000,0 write=1.000000000,0 limit=0.000000000,0 ignored=none\nerror: TxnExists\ntxn: \"B\" id=00000000-0000-0000-0000-000000000002 epoch=0 seq=0 read=2.000000000,0 write=2.000000000,0 limit=0.000000000,0 ignored=none\nok\nok\ntxn: \"B\" id=00000000-0000-0000-0000-000000000002 epoch=0 seq=1 read=2.000000000,0 write=2.000000000,0 limit=0.000000000,0 ignored=none\nok\nok\nerror: ReplayMismatch stored=/BYTES/x\n",
+        ),
+        (
+            "run --stats --count-max=67",
+            b"txn_begin t=A ts=1\nput t=A k=a v=abc\nput t=A k=a v=abc\nput t=A k=a v=x\n",
+            b"txn: \"A\" id=00000000-0000-0000-0000-000000000001 epoch=0 seq=0 read=1.000000000,0 write=1.000000000,0 limit=0.000000000,0 ignored=none\nstats: key_count=0 key_bytes=0 val_count=0 val_bytes=0 live_count=0 live_bytes=0 intent_count=0 intent_bytes=0 intent_age=0 gc_bytes_age=0 range_key_count=0 range_key_bytes=0 range_val_count=0 range_val_bytes=0 last_update_nanos=0\nok\nstats: key_count=1 key_bytes=14 val_count=1 val_bytes=53 live_count=1 live_bytes=67 intent_count=1 intent_bytes=20 intent_age=0 gc_bytes_age=0 range_key_count=0 range_key_bytes=0 range_val_count=0 range_val_bytes=0 last_update_nanos=1000000000\nok\nstats: key_count=1 key_bytes=14 val_count=1 val_bytes=53 live_count=1 live_bytes=67 intent_count=1 intent_bytes=20 intent_age=0 gc_bytes_age=0 range_key_count=0 range_key_bytes=0 range_val_count=0 range_val_bytes=0 last_update_nanos=1000000000\nerror: ReplayMismatch stored=/BYTES/abc\nstats: key_count=1 key_bytes=14 val_count=1 val_bytes=53 live_count=1 live_bytes=67 intent_count=1 intent_bytes=20 intent_age=0 gc_bytes_age=0 range_key_count=0 range_key_bytes=0 range_val_count=0 range_val_bytes=0 last_update_nanos=1000000000\n",
+        ),
+    ];
+    for (line, script, answers) in cases {
+        assert_answers(&rt, rt.alloc(), line, script, 100, answers)?;
     }
     Ok(())
 }

@@ -1,26 +1,33 @@
 -- The texts of answers and refusals.
-use Rattle.std.specs.Prelude.{ℕ, zero, suc, ◌/◌, ◌+◌, ◌%◌, Bool, true, false, ◌&&◌, not, List, [], ◌∷◌, ◌++◌, Option, Some, None, nat_le, ◌==◌, codes, if◌then◌else◌}
+use Rattle.std.specs.Prelude.{ℕ, zero, suc, ◌/◌, ◌+◌, ◌%◌, ℤ, Bool, true, false, ◌&&◌, not, List, [], ◌∷◌, ◌++◌, Option, Some, None, nat_le, ◌==◌, codes, if◌then◌else◌}
 use Rattle.std.specs.List.{flat_map}
 use Rattle.std.specs.Char.{digit_char}
 use Rattle.std.specs.Fmt.{decimal, signed_decimal}
 use Rattle.mvcc_key.specs.Order.{Timestamp, Key}
-use Rattle.mvcc_key.specs.History.{Body, Deletion, Bytes, Int}
-use Rattle.mvcc_key.specs.Refusal.{Refusal, EmptyKey, KeyTooLong, ValueTooLong, BadTimestamp, TooOld, MomentTooEarly, CountOverflow}
+use Rattle.mvcc_key.specs.History.{Body, Deletion, Bytes, Int, SeqRange}
+use Rattle.mvcc_key.specs.Refusal.{IntentSeen, Refusal, EmptyKey, KeyTooLong, ValueTooLong, BadTimestamp, Conflict, EpochFault, ReplayMissing, ReplayMismatch, TooOld, ConditionFailed, NotInteger, IntegerOverflow, IntentTooLong, MomentTooEarly, CountOverflow}
 use Rattle.mvcc_value.specs.Found.{Found}
+use Rattle.txn_state.specs.Transaction.{Txn, TxnRefusal, SequenceLimit, EpochLimit, BadRanges}
 use Rattle.stat_core.specs.ComputeStats.{Sums}
 use Rattle.stat_core.specs.Names.{field_name}
+use Rattle.uuid.specs.Text.{lower, hyphenated_text}
 use Rattle.script_text.specs.Statistics.{statistics_line}
 
--- why a line is refused: by the script, or by the engine
+-- why a line is refused: by the script, by a transaction's rules, or by the engine
 pub data Reason : Type 0 where
   BadLine : (line : ℕ) → Reason
+  TxnExists : Reason
+  NoTxn : Reason
+  ByTxn : (why : TxnRefusal) → Reason
   ByEngine : (why : Refusal) → Reason
 
 -- what is shown
 pub data Answer : Type 0 where
   Accepted : Answer
+  TxnLine : (name : List ℕ) (txn : Txn) → Answer
   Got : (key : Key) (found : Option Found) → Answer
   Deleted : (found : Bool) → Answer
+  Incremented : (number : ℤ) → Answer
   Statistics : (sums : Sums) (now : ℕ) → Answer
   LayoutLine : (index keys clears : ℕ) (ranges : Bool) → Answer
   Refused : (why : Reason) → Answer
@@ -65,10 +72,56 @@ value Deletion = codes "/<empty>"
 value (Bytes bytes) = codes "/BYTES/" ++ escaped bytes
 value (Int number) = codes "/INT/" ++ signed_decimal number
 
+-- an id in its form with hyphens
+unfoldable pub id : List ℕ → List ℕ
+id bytes = hyphenated_text lower bytes
+
+-- the two ends of a range
+unfoldable pub range : SeqRange → List ℕ
+range r = decimal r.first ++ codes "-" ++ decimal r.last
+
+-- a range behind another one
+unfoldable pub next_range : SeqRange → List ℕ
+next_range r = codes "," ++ range r
+
+-- the ranges, with commas between them, or none
+unfoldable pub ranges : List SeqRange → List ℕ
+ranges [] = codes "none"
+ranges (r ∷ rs) = range r ++ flat_map next_range rs
+
+-- the name of a transaction
+unfoldable pub txn_name : List ℕ → List ℕ
+txn_name name = codes "txn: \"" ++ name ++ codes "\""
+
+-- which transaction it is, and where it stands
+unfoldable pub txn_numbers : Txn → List ℕ
+txn_numbers t = codes " id=" ++ id t.id ++ (codes " epoch=" ++ decimal t.epoch) ++ (codes " seq=" ++ decimal t.sequence)
+
+-- when it reads and writes, and up to when a value may have been written before it began
+unfoldable pub txn_times : Txn → List ℕ
+txn_times t = (codes " read=" ++ time t.read_ts) ++ (codes " write=" ++ time t.write_ts) ++ (codes " limit=" ++ time t.global_limit)
+
+-- a transaction by its name, as it stands
+unfoldable pub txn_line : List ℕ → Txn → List ℕ
+txn_line name t = txn_name name ++ txn_numbers t ++ txn_times t ++ codes " ignored=" ++ ranges t.ignored ++ codes "\n"
+
+-- the number that is there after an increment
+unfoldable pub increment_line : ℤ → List ℕ
+increment_line number = codes "increment: " ++ signed_decimal number ++ codes "\n"
+
 -- what a read of a key shows
 unfoldable pub get_line : Key → Option Found → List ℕ
 get_line key None = codes "get: " ++ quoted key ++ codes " -> <no data>\n"
 get_line key (Some f) = codes "get: " ++ quoted f.key ++ codes " -> " ++ value f.body ++ codes " @" ++ time f.ts ++ codes "\n"
+
+-- an intent that is in the way
+unfoldable pub conflict_text : IntentSeen → List ℕ
+conflict_text i = codes " " ++ quoted i.key ++ codes "/" ++ id i.id ++ codes "@" ++ time i.ts
+
+-- a value, or that there is none
+unfoldable pub actual : Option Body → List ℕ
+actual None = codes "<none>"
+actual (Some body) = value body
 
 -- the name of a refusal, and what it carries; no command gives another so far
 unfoldable pub refusal : Refusal → List ℕ
@@ -76,14 +129,31 @@ refusal EmptyKey = codes "EmptyKey"
 refusal (KeyTooLong length) = codes "KeyTooLong length=" ++ decimal length
 refusal (ValueTooLong length) = codes "ValueTooLong length=" ++ decimal length
 refusal BadTimestamp = codes "BadTimestamp"
+refusal (Conflict intents) = codes "Conflict" ++ flat_map conflict_text intents
+refusal (EpochFault own other) = (codes "EpochFault own=" ++ decimal own) ++ (codes " intent=" ++ decimal other)
+refusal (ReplayMissing sequence) = codes "ReplayMissing sequence=" ++ decimal sequence
+refusal (ReplayMismatch stored) = codes "ReplayMismatch stored=" ++ value stored
 refusal (TooOld existing) = codes "TooOld existing=" ++ time existing
+refusal (ConditionFailed found) = codes "ConditionFailed actual=" ++ actual found
+refusal (NotInteger found) = codes "NotInteger actual=" ++ value found
+refusal (IntegerOverflow old by) = (codes "IntegerOverflow old=" ++ signed_decimal old) ++ (codes " by=" ++ signed_decimal by)
+refusal (IntentTooLong length) = codes "IntentTooLong length=" ++ decimal length
 refusal (MomentTooEarly latest) = codes "MomentTooEarly latest=" ++ decimal latest
 refusal (CountOverflow field) = codes "CountOverflow field=" ++ field_name field
 refusal other = []
 
+-- the name of a refusal by a transaction's rules, and the number as it stands
+unfoldable pub txn_refusal : TxnRefusal → List ℕ
+txn_refusal (SequenceLimit sequence) = codes "SequenceLimit sequence=" ++ decimal sequence
+txn_refusal (EpochLimit epoch) = codes "EpochLimit epoch=" ++ decimal epoch
+txn_refusal BadRanges = codes "BadRanges"
+
 -- why a line is refused
 unfoldable pub reason : Reason → List ℕ
 reason (BadLine n) = codes "BadLine line=" ++ decimal n
+reason TxnExists = codes "TxnExists"
+reason NoTxn = codes "NoTxn"
+reason (ByTxn why) = txn_refusal why
 reason (ByEngine why) = refusal why
 
 -- true or false
@@ -110,8 +180,10 @@ layout_line index keys clears ranges =
 -- the text of an answer: whole lines
 unfoldable pub show : Answer → List ℕ
 show Accepted = codes "ok\n"
+show (TxnLine name txn) = txn_line name txn
 show (Got key found) = get_line key found
 show (Deleted found) = codes "del: found=" ++ truth found ++ codes "\n"
+show (Incremented number) = increment_line number
 show (Statistics sums now) = statistics_line sums now
 show (LayoutLine index keys clears ranges) = layout_line index keys clears ranges
 show (Refused why) = codes "error: " ++ reason why ++ codes "\n"

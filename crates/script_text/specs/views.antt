@@ -1,6 +1,3 @@
 -- Words that only contracts of the code need: how they view its values, and what holds inside.
 pub mod Appending
-pub mod Named
-pub mod Reading
 pub mod Seen
-pub mod SeenLine

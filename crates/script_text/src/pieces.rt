@@ -46,6 +46,16 @@ pub fn append_numbered(words: &[u8], number: u64, into: &mut Vec<u8>) -> Result<
     Ok(())
 }
 
+/// Words with a signed number behind them.
+pub fn append_integer(words: &[u8], number: i64, into: &mut Vec<u8>) -> Result<(), OutOfMemory>
+    ensures ok { OnOk result (into.new.items ≡ into.old.items ++ (words.now ++ signed_decimal number)) }
+    ensures err { OnErr result (Extends into.old.items into.new.items) }
+{
+    append(words, into)?;
+    append_signed(number, into)?;
+    Ok(())
+}
+
 /// Bytes, each for itself or escaped.
 #[tactic(auto, using(crate::proofs::TextLaws::unescaped_text))]
 pub fn append_escaped(bytes: &[u8], into: &mut Vec<u8>) -> Result<(), OutOfMemory>

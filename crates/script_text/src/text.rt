@@ -1,23 +1,23 @@
 //! The texts of answers and refusals.
 ghost use Rattle.std.specs.Prelude.{◌≡◌, ◌++◌, OnOk, OnErr};
 ghost use Rattle.std.specs.Option.{option_map};
-ghost use Rattle.mvcc_key.specs.views.Seen.{time_of};
-ghost use Rattle.mvcc_value.specs.views.Seen.{found_of, owned_body};
-ghost use Rattle.script_text.specs.Text.{get_line, layout_line, part_name, quoted, reason, refusal, show, time, value, yes_or_no};
-ghost use Rattle.script_text.specs.views.Seen.{answer_of, reason_of, refusal_of};
-ghost use Rattle.stat_core.specs.Names.{field_name};
-ghost use Rattle.stat_core.specs.views.Seen.{field_of};
+ghost use Rattle.std.specs.List.{flat_map};
+ghost use Rattle.mvcc_key.specs.views.Seen.{range_of};
+ghost use Rattle.mvcc_value.specs.views.Seen.{found_of};
+ghost use Rattle.txn_state.specs.views.Seen.{ranges_of};
+ghost use Rattle.script_text.specs.Text.{get_line, increment_line, layout_line, next_range, part_name, range, ranges, show, txn_line, txn_name, txn_numbers, txn_times, yes_or_no};
+ghost use Rattle.script_text.specs.views.Seen.{answer_of};
 ghost use Rattle.script_text.specs.views.Appending.{Extends};
 
-use crate::answer::{Answer, Reason, Refusal};
-use crate::pieces::{
-    append, append_escaped, append_nine_digits, append_number, append_numbered, append_signed,
-};
+use crate::answer::Answer;
+use crate::pieces::{append, append_integer, append_number, append_numbered};
+use crate::refusals::append_reason;
 use crate::statistics::append_statistics;
-use mvcc_key::{OutOfMemory, Timestamp};
-use mvcc_value::{Found, OwnedValue};
-use stat_core::Field;
+use crate::values::{append_id, append_quoted, append_time, append_timed, append_value};
+use mvcc_key::{OutOfMemory, SeqRange};
+use mvcc_value::Found;
 use std::alloc::Global;
+use txn_state::Txn;
 
 /// Appends the text of the answer. Where memory is wanting the bytes stay as they were.
 pub fn show(_alloc: Global, answer: &Answer<'_>, into: &mut Vec<u8>) -> Result<(), OutOfMemory>
@@ -41,9 +41,11 @@ fn append_answer(answer: &Answer<'_>, into: &mut Vec<u8>) -> Result<(), OutOfMem
 {
     match *answer {
         Answer::Accepted => append(b"ok\n", into),
+        Answer::TxnLine { name, txn } => append_txn_line(name, txn, into),
         Answer::Got { key, found } => append_get_line(key, found, into),
         Answer::Deleted { found: true } => append(b"del: found=true\n", into),
         Answer::Deleted { found: false } => append(b"del: found=false\n", into),
+        Answer::Incremented(number) => append_increment_line(number, into),
         Answer::Statistics(stats) => append_statistics(stats, into),
         Answer::LayoutLine {
             index,
@@ -58,6 +60,116 @@ fn append_answer(answer: &Answer<'_>, into: &mut Vec<u8>) -> Result<(), OutOfMem
             Ok(())
         }
     }
+}
+
+/// The number that is there after an increment.
+#[tactic(auto, unfolding(crate::specs::Text::increment_line))]
+fn append_increment_line(number: i64, into: &mut Vec<u8>) -> Result<(), OutOfMemory>
+    ensures ok { OnOk result (into.new.items ≡ into.old.items ++ increment_line number) }
+    ensures err { OnErr result (Extends into.old.items into.new.items) }
+{
+    append_integer(b"increment: ", number, into)?;
+    append(b"\n", into)?;
+    Ok(())
+}
+
+/// A transaction by its name, as it stands.
+#[tactic(auto, unfolding(crate::specs::Text::txn_line))]
+fn append_txn_line(name: &str, txn: &Txn, into: &mut Vec<u8>) -> Result<(), OutOfMemory>
+    ensures ok { OnOk result (into.new.items ≡ into.old.items ++ txn_line name.now txn.now) }
+    ensures err { OnErr result (Extends into.old.items into.new.items) }
+{
+    append_txn_name(name, into)?;
+    append_txn_numbers(txn, into)?;
+    append_txn_times(txn, into)?;
+    append(b" ignored=", into)?;
+    append_ranges(txn.ignored(), into)?;
+    append(b"\n", into)?;
+    Ok(())
+}
+
+/// The name of a transaction.
+#[tactic(auto, unfolding(crate::specs::Text::txn_name))]
+fn append_txn_name(name: &str, into: &mut Vec<u8>) -> Result<(), OutOfMemory>
+    ensures ok { OnOk result (into.new.items ≡ into.old.items ++ txn_name name.now) }
+    ensures err { OnErr result (Extends into.old.items into.new.items) }
+{
+    append(b"txn: \"", into)?;
+    append(name.as_bytes(), into)?;
+    append(b"\"", into)?;
+    Ok(())
+}
+
+/// Which transaction it is, and where it stands.
+#[tactic(auto, unfolding(crate::specs::Text::txn_numbers))]
+fn append_txn_numbers(txn: &Txn, into: &mut Vec<u8>) -> Result<(), OutOfMemory>
+    ensures ok { OnOk result (into.new.items ≡ into.old.items ++ txn_numbers txn.now) }
+    ensures err { OnErr result (Extends into.old.items into.new.items) }
+{
+    append(b" id=", into)?;
+    append_id(txn.id(), into)?;
+    append_numbered(b" epoch=", u64::from(txn.epoch()), into)?;
+    append_numbered(b" seq=", u64::from(txn.sequence()), into)?;
+    Ok(())
+}
+
+/// When a transaction reads and writes, and up to when a value may have been written before it began.
+#[tactic(auto, unfolding(crate::specs::Text::txn_times))]
+fn append_txn_times(txn: &Txn, into: &mut Vec<u8>) -> Result<(), OutOfMemory>
+    ensures ok { OnOk result (into.new.items ≡ into.old.items ++ txn_times txn.now) }
+    ensures err { OnErr result (Extends into.old.items into.new.items) }
+{
+    append_timed(b" read=", txn.read_ts(), into)?;
+    append_timed(b" write=", txn.write_ts(), into)?;
+    append_timed(b" limit=", txn.global_limit(), into)?;
+    Ok(())
+}
+
+/// The ranges, with commas between them, or `none`.
+#[tactic(auto, unfolding(crate::specs::Text::ranges))]
+fn append_ranges(ignored: &[SeqRange], into: &mut Vec<u8>) -> Result<(), OutOfMemory>
+    ensures ok { OnOk result (into.new.items ≡ into.old.items ++ ranges (ranges_of ignored.now)) }
+    ensures err { OnErr result (Extends into.old.items into.new.items) }
+{
+    let Some((first, others)) = ignored.split_first() else {
+        append(b"none", into)?;
+        return Ok(());
+    };
+    append_range(*first, into)?;
+    append_next_ranges(others, into)?;
+    Ok(())
+}
+
+/// Each of the ranges behind a comma.
+fn append_next_ranges(others: &[SeqRange], into: &mut Vec<u8>) -> Result<(), OutOfMemory>
+    ensures ok { OnOk result (into.new.items ≡ into.old.items ++ flat_map next_range (ranges_of others.now)) }
+    ensures err { OnErr result (Extends into.old.items into.new.items) }
+{
+    for other in others {
+        append_next_range(*other, into)?;
+    }
+    Ok(())
+}
+
+#[tactic(auto, unfolding(crate::specs::Text::next_range))]
+fn append_next_range(other: SeqRange, into: &mut Vec<u8>) -> Result<(), OutOfMemory>
+    ensures ok { OnOk result (into.new.items ≡ into.old.items ++ next_range (range_of other)) }
+    ensures err { OnErr result (Extends into.old.items into.new.items) }
+{
+    append(b",", into)?;
+    append_range(other, into)?;
+    Ok(())
+}
+
+/// The two ends of a range.
+#[tactic(auto, unfolding(crate::specs::Text::range))]
+fn append_range(ignored: SeqRange, into: &mut Vec<u8>) -> Result<(), OutOfMemory>
+    ensures ok { OnOk result (into.new.items ≡ into.old.items ++ range (range_of ignored)) }
+    ensures err { OnErr result (Extends into.old.items into.new.items) }
+{
+    append_number(u64::from(ignored.first), into)?;
+    append_numbered(b"-", u64::from(ignored.last), into)?;
+    Ok(())
 }
 
 #[tactic(auto, unfolding(crate::specs::Text::get_line))]
@@ -82,100 +194,6 @@ fn append_get_line(key: &[u8], found: Option<&Found>, into: &mut Vec<u8>) -> Res
             Ok(())
         }
     }
-}
-
-#[tactic(auto, unfolding(crate::specs::Text::reason))]
-fn append_reason(why: Reason, into: &mut Vec<u8>) -> Result<(), OutOfMemory>
-    ensures ok { OnOk result (into.new.items ≡ into.old.items ++ reason (reason_of why)) }
-    ensures err { OnErr result (Extends into.old.items into.new.items) }
-{
-    match why {
-        Reason::BadLine(line) => append_numbered(b"BadLine line=", line, into),
-        Reason::ByEngine(why) => append_refusal(why, into),
-    }
-}
-
-/// The name of a refusal, and what it carries.
-#[tactic(auto, unfolding(crate::specs::Text::refusal))]
-fn append_refusal(why: Refusal, into: &mut Vec<u8>) -> Result<(), OutOfMemory>
-    ensures ok { OnOk result (into.new.items ≡ into.old.items ++ refusal (refusal_of why)) }
-    ensures err { OnErr result (Extends into.old.items into.new.items) }
-{
-    match why {
-        Refusal::EmptyKey => append(b"EmptyKey", into),
-        Refusal::KeyTooLong(length) => append_numbered(b"KeyTooLong length=", length, into),
-        Refusal::ValueTooLong(length) => append_numbered(b"ValueTooLong length=", length, into),
-        Refusal::BadTimestamp => append(b"BadTimestamp", into),
-        Refusal::TooOld(existing) => append_timed(b"TooOld existing=", existing, into),
-        Refusal::MomentTooEarly(latest) => append_numbered(b"MomentTooEarly latest=", latest, into),
-        Refusal::CountOverflow(field) => append_named(b"CountOverflow field=", field, into),
-    }
-}
-
-/// Words with a timestamp behind them.
-fn append_timed(words: &[u8], ts: Timestamp, into: &mut Vec<u8>) -> Result<(), OutOfMemory>
-    ensures ok { OnOk result (into.new.items ≡ into.old.items ++ (words.now ++ time (time_of ts))) }
-    ensures err { OnErr result (Extends into.old.items into.new.items) }
-{
-    append(words, into)?;
-    append_time(ts, into)?;
-    Ok(())
-}
-
-/// Words with the name of a statistic behind them.
-fn append_named(words: &[u8], field: Field, into: &mut Vec<u8>) -> Result<(), OutOfMemory>
-    ensures ok { OnOk result (into.new.items ≡ into.old.items ++ (words.now ++ field_name (field_of field))) }
-    ensures err { OnErr result (Extends into.old.items into.new.items) }
-{
-    append(words, into)?;
-    append(field.name().as_bytes(), into)?;
-    Ok(())
-}
-
-/// A key in quotation marks.
-#[tactic(auto, unfolding(crate::specs::Text::quoted))]
-fn append_quoted(key: &[u8], into: &mut Vec<u8>) -> Result<(), OutOfMemory>
-    ensures ok { OnOk result (into.new.items ≡ into.old.items ++ quoted key.now) }
-    ensures err { OnErr result (Extends into.old.items into.new.items) }
-{
-    append(b"\"", into)?;
-    append_escaped(key, into)?;
-    append(b"\"", into)?;
-    Ok(())
-}
-
-/// A value by its kind.
-#[tactic(auto, unfolding(crate::specs::Text::value))]
-fn append_value(stored: &OwnedValue, into: &mut Vec<u8>) -> Result<(), OutOfMemory>
-    ensures ok { OnOk result (into.new.items ≡ into.old.items ++ value (owned_body stored.now)) }
-    ensures err { OnErr result (Extends into.old.items into.new.items) }
-{
-    match stored {
-        OwnedValue::Bytes(bytes) => {
-            append(b"/BYTES/", into)?;
-            append_escaped(bytes.bytes(), into)?;
-            Ok(())
-        }
-        OwnedValue::Int(number) => {
-            append(b"/INT/", into)?;
-            append_signed(*number, into)?;
-            Ok(())
-        }
-    }
-}
-
-/// Seconds, nine digits of nanoseconds, and the counter.
-#[tactic(auto, unfolding(crate::specs::Text::time))]
-fn append_time(ts: Timestamp, into: &mut Vec<u8>) -> Result<(), OutOfMemory>
-    ensures ok { OnOk result (into.new.items ≡ into.old.items ++ time (time_of ts)) }
-    ensures err { OnErr result (Extends into.old.items into.new.items) }
-{
-    append_number(ts.wall() / 1_000_000_000, into)?;
-    append(b".", into)?;
-    append_nine_digits((ts.wall() % 1_000_000_000) as u32, into)?;
-    append(b",", into)?;
-    append_number(u64::from(ts.logical()), into)?;
-    Ok(())
 }
 
 /// Appends the line of the part at a place, from 0 for the memory table.

@@ -8,3 +8,6 @@ pub mod Removals
 pub mod Dying
 pub mod SpanBounds
 pub mod SpanWalk
+pub mod Moments
+pub mod MomentLaws
+pub mod PointChange

@@ -3,6 +3,7 @@ ghost use Rattle.mvcc_key.specs.Order.{Key, Pair};
 ghost use Rattle.stat_delta.specs.Laws.{OthersOfStored, SharesOfStored, StoredKeyChanges, StoredKeyChangesOnTop, StoredChangesAddUp, VersionComes, IntentIsPut, IntentComes, IntentIsReplaced, IntentGoes, IntentBecomesVersion, VersionTellsShape, RecordTellsShape, TopsAreShort};
 ghost use Rattle.stat_delta.specs.SpanLaws.{TombstoneOverKey, TombstoneOverVersions, LeastAboveTells, HidingNothingStays, KeysAreWithin, OneKeyFirst, FirstPairTells, PairsTellVersions, NothingAtOrAbove, StoredSpanChanges, CoveringStaysInside, UncoveringStaysInside, NoneFoundHideNothing, StoredSharesTell, TombstonesChange, MiddleShows, TombstoneComes, TombstonesGo, HidingNothingGoes};
 ghost use Rattle.stat_delta.specs.Dying.{TombstoneKills, TombstoneComesOverKeys, OneDies, DyingInTwo, FewDie};
+ghost use Rattle.stat_delta.specs.MomentLaws.{StoredIsBy, GreatestIsLast, NothingMoves, VersionMoves, IntentMoves};
 ghost use Rattle.stat_delta.specs.SpanWalk.{WalkInTwo, WalkSkips, WalkMeetsKeys, WalkMeetsFirst, TombstoneComesOverPairs};
 ghost use Rattle.stat_delta.specs.Removals.{VersionsInTwo, OldShapesGo, AllShapesGo, OldVersionsGo, WithoutVersions, NewerStandInFront, VersionsUpToGo, AllVersionsGo, OlderStayUnderFewer, WindowStays, WindowGoes};
 ghost use Rattle.stat_delta.specs.SpanBounds.{KeysAreShort, PairsAreShort, VersionsAreShort, VersionsAreFew, KeysAreFew, FragmentsAreFew, FragmentsStandAround};
@@ -118,4 +119,13 @@ pub fn laws_of_bounds()
     ensures keys_few { KeysAreFew }
     ensures fragments_few { FragmentsAreFew }
     ensures around { FragmentsStandAround }
+{}
+
+/// The latest moment of all that is stored, and what a version or an intent more makes of it.
+pub fn laws_of_moments()
+    ensures stored { StoredIsBy }
+    ensures greatest { GreatestIsLast }
+    ensures stays { NothingMoves }
+    ensures version { VersionMoves }
+    ensures intent { IntentMoves }
 {}

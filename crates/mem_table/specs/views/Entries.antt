@@ -1,10 +1,9 @@
 -- Entries by their numbers, and lists of numbers as lists of entries.
-use Rattle.std.specs.List.{list_any}
-use Rattle.std.specs.Prelude.{Bool, slice_get, Some, ◌≡◌, ℕ, ◌<◌, List, [], map, insert, slice_index_or, None, All, length}
-use Rattle.mvcc_key.specs.Order.{no_time, Name, is_same_name}
+use Rattle.std.specs.Prelude.{slice_get, Some, ◌≡◌, ℕ, ◌<◌, List, [], map, slice_index_or, None, All, length}
+use Rattle.mvcc_key.specs.Order.{no_time}
 use Rattle.mvcc_key.specs.views.AbbreviatedKey.{abbreviated_key}
 use Rattle.mvcc_key.specs.Encoded.{IsBytes}
-use Rattle.mvcc_key.specs.Points.{Point, IsRising, count_below}
+use Rattle.mvcc_key.specs.Points.{Point, IsRising}
 
 -- a point under no name, read where a number has none
 abbrev pub no_point : Point

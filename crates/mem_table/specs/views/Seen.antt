@@ -1,5 +1,5 @@
 -- How contracts see the operations that a memory table holds.
-use Rattle.std.specs.Prelude.{ℕ, ◌+◌, ◌≤◌, ◌^◌, List, length, vec_len, vec_capacity}
+use Rattle.std.specs.Prelude.{ℕ, ◌+◌, ◌≤◌, ◌^◌, List, vec_len, vec_capacity}
 use Rattle.mvcc_key.specs.Points.{Point}
 use Rattle.mvcc_key.specs.views.SeenPoint.{points_of}
 use Rattle.mvcc_key.specs.declared.batch.PointOp.{PointOp}

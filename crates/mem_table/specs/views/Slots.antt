@@ -1,9 +1,8 @@
 -- What contracts see of leaves.
-use Rattle.std.specs.Prelude.{◌≡◌, ◌≢◌, ℕ, zero, suc, ◌+◌, ◌<◌, ◌≤◌, List, [], ◌∷◌, length, map, take, drop, insert, flat_map, slice_index_or, All}
+use Rattle.std.specs.Prelude.{◌≡◌, ℕ, zero, suc, ◌+◌, ◌<◌, ◌≤◌, List, [], ◌∷◌, length, map, take, drop, insert, flat_map, slice_index_or, All}
 use Rattle.std.specs.List.{AllByRecursion}
-use Rattle.std.specs.declared.cmp.Ordering.TheVariants.{Equal}
-use Rattle.mvcc_key.specs.Points.{Point, point_cmp, IsRising}
-use Rattle.mem_table.specs.views.Entries.{entry_at, abbreviated_at, numbered}
+use Rattle.mvcc_key.specs.Points.{Point, IsRising}
+use Rattle.mem_table.specs.views.Entries.{abbreviated_at, numbered}
 use native.Mathlib.Nat.{ℕ_set}
 use native.Mathlib.Bridge.{le_prop}
 use mathlib.Core.HLevel.{×_prop, Unit-prop}

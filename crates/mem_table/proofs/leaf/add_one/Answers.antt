@@ -1,4 +1,4 @@
-use Rattle.std.proofs.Common.{◌≡◌, ℕ, ◌+◌, ◌<◌, ◌^◌, length, get_or, sym, ap, ◌∙◌, arith}
+use Rattle.std.proofs.Common.{◌≡◌, ℕ, ◌+◌, ◌<◌, ◌^◌, length, get_or, ap, ◌∙◌, arith}
 use Rattle.mem_table.proofs.StartLaws.{grown, grown-first, grown-at, grown-next, grown-last, from-at}
 use Rattle.mem_table.proofs.leaf.add_one.Goals as goal
 

@@ -1,7 +1,7 @@
 -- What a run promises, by how its script ends.
 use Rattle.std.proofs.Common.{sym, ap, ◌∙◌}
 use Rattle.std.specs.Option.{option_map}
-use Rattle.script_text.specs.CommandLine.{Run}
+use Rattle.script_line.specs.CommandLine.{Run}
 use Rattle.script_run.specs.Output.{script_output}
 use Rattle.script_run.proofs.RunLaws.{all_said, whole_lines_said, beginning_said, stopped_by_fault, runs_through}
 use Rattle.script_run.proofs.program.run.Goals as goal

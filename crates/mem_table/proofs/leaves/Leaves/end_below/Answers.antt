@@ -1,9 +1,7 @@
-use Rattle.std.proofs.Common.{◌≡◌, ℕ, ◌+◌, ◌-◌, ◌<◌, length, get_or, sym, ap, ◌∙◌, arith}
+use Rattle.std.proofs.Common.{◌-◌, ◌<◌, length, sym, ap, ◌∙◌, arith}
 use Rattle.std.specs.Prelude.{vec_len}
 use Rattle.std.proofs.lemmas.Bool.Decides.{nat_tests}
 use Rattle.mvcc_key.specs.Encoded.{name_in}
-use Rattle.mem_table.specs.views.Slots.{Slots}
-use Rattle.mem_table.specs.views.Gaps.{leaf_at}
 use Rattle.mem_table.proofs.LeafLaws.{leaf-there}
 use Rattle.mem_table.proofs.GapLaws.{numbers-read}
 use Rattle.mem_table.proofs.EndLaws.{end-count, known-at}

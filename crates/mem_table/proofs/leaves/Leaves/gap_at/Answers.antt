@@ -1,6 +1,4 @@
-use Rattle.std.proofs.Common.{◌≡◌, ◌+◌, ◌-◌, ◌/◌, ◌≤◌, ℕ, ◌<◌, length, take, ap, arith}
-use Rattle.std.specs.Prelude.{vec_len}
-use Rattle.mem_table.specs.views.Gaps.{place_of}
+use Rattle.std.proofs.Common.{◌≡◌, ◌+◌, ◌-◌, ◌/◌, ℕ, ◌<◌, length, take, ap, arith}
 use Rattle.mem_table.specs.views.Slots.{numbers_in}
 use Rattle.mem_table.proofs.StartLaws.{length-starts, start-read, place-step}
 use Rattle.mem_table.proofs.leaves.Leaves.gap_at.Goals as goal

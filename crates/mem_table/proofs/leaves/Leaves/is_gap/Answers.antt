@@ -1,7 +1,5 @@
-use Rattle.std.proofs.Common.{◌≡◌, ◌+◌, ◌≤◌, length, ap, ◌∙◌, arith}
+use Rattle.std.proofs.Common.{◌≡◌, ◌+◌, length, ap, arith}
 use Rattle.std.proofs.lemmas.Bool.Decides.{nat_tests}
-use Rattle.std.proofs.lemmas.Bool.{eqb-true}
-use Rattle.mem_table.specs.views.Gaps.{place_of, leaf_at}
 use Rattle.mem_table.proofs.GapLaws.{numbers-read}
 use Rattle.mem_table.proofs.StartLaws.{length-starts, start-read}
 use Rattle.mem_table.proofs.leaves.Leaves.is_gap.Goals as goal

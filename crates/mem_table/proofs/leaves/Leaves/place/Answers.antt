@@ -1,7 +1,6 @@
-use Rattle.std.proofs.Common.{◌≡◌, ◌<◌, length, ap, arith}
+use Rattle.std.proofs.Common.{◌<◌, length, ap, arith}
 use Rattle.std.specs.Prelude.{vec_len}
 use Rattle.std.proofs.lemmas.Bool.Decides.{nat_tests}
-use Rattle.mem_table.specs.views.Gaps.{place_of}
 use Rattle.mem_table.proofs.StartLaws.{length-starts, start-read, place-le}
 use Rattle.mem_table.proofs.leaves.Leaves.place.Goals as goal
 

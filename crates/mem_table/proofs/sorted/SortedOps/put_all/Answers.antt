@@ -3,7 +3,7 @@ use Rattle.std.proofs.lemmas.List.{nil_from_length, length-append}
 use Rattle.mvcc_key.specs.declared.batch.PointOp.{PointOp}
 use Rattle.mvcc_key.specs.Batches.{AreEntries}
 use Rattle.mem_table.specs.views.Places.{newest_ops}
-use Rattle.mem_table.specs.views.Seen.{ops_held, HasRoom}
+use Rattle.mem_table.specs.views.Seen.{ops_held}
 use Rattle.mem_table.proofs.EntryLaws.{entries-front}
 use Rattle.mem_table.proofs.HeldLaws.{newest-fold, newest-none, storable-last}
 use Rattle.mem_table.proofs.RoomLaws.{room-less}

@@ -1,8 +1,8 @@
-use Rattle.std.proofs.Common.{List, sym, ap, ap₂, subst, ◌∙◌}
+use Rattle.std.proofs.Common.{List, sym, subst}
 use Rattle.mvcc_key.specs.declared.batch.PointOp.{PointOp}
 use Rattle.mvcc_key.proofs.BatchLaws.{encodable-entries}
 use Rattle.mem_table.specs.views.Places.{listed}
-use Rattle.mem_table.specs.views.Slots.{Slots, numbers_in}
+use Rattle.mem_table.specs.views.Slots.{numbers_in}
 use Rattle.mem_table.proofs.HeldLaws.{IsHeld}
 use Rattle.mem_table.proofs.sorted.SortedOps.reserve.Goals as goal
 

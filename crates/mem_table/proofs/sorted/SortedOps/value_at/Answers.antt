@@ -1,7 +1,6 @@
 use Rattle.std.proofs.Common.{ℕ, ap, ◌∙◌, arith}
 use Rattle.std.specs.Prelude.{slice_get}
 use Rattle.std.specs.Option.{option_map, option_and_then}
-use Rattle.mvcc_key.specs.Points.{Point}
 use Rattle.mem_table.specs.views.Slots.{numbers_in}
 use Rattle.mem_table.specs.views.Seen.{points_held}
 use Rattle.mem_table.proofs.PlaceLaws.{shown-at, shown-none}

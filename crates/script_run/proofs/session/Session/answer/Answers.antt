@@ -2,7 +2,7 @@
 use Rattle.std.proofs.Common.{◌≡◌, [], ◌∷◌, ◌++◌, sym, ap, ◌∙◌, append-nil}
 use Rattle.std.proofs.lemmas.Result.{on_ok_weaker}
 use Rattle.script_text.specs.Text.{Refused, BadLine, show}
-use Rattle.script_text.specs.views.SeenLine.{line_of}
+use Rattle.script_line.specs.views.SeenLine.{line_of}
 use Rattle.script_text.proofs.TextLaws.{on_ok}
 use Rattle.script_run.specs.Output.{carry_out, performed}
 use Rattle.script_run.proofs.StepLaws.{carry_out-bad, carry_out-performed, performed-blank, answered, unanswered}
@@ -35,7 +35,7 @@ returns-then-is_blank-clause-state c = ap (λ k. k.state) (sym (blank c))
 pub returns-then-is_blank-clause-answer : goal.returns-then-is_blank-clause-answer
 returns-then-is_blank-clause-answer c = unanswered c.args.options.stats (carry_out c.args.self.now c.args.number c.args.line.now) c.args.self.now c.args.text.now.items (blank c)
 
-said : (c : goal.Joined-said-11) → carry_out c.args.self.now c.args.number c.args.line.now ≡ performed c.args.self.now (line_of c.in-Ok.said)
+said : (c : goal.Joined-said-35) → carry_out c.args.self.now c.args.number c.args.line.now ≡ performed c.args.self.now (line_of c.in-Ok.said)
 said c = carry_out-performed c.args.self.now c.args.number c.args.line.now c.without_return.result.now (line_of c.in-Ok.said) c.without_return.ensures c.in-Ok.ensures
 
 pub returns-clause-state : goal.returns-clause-state

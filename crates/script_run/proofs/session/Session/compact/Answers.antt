@@ -1,18 +1,19 @@
 -- A compaction is a step of the engine.
-use Rattle.std.proofs.Common.{◌≡◌, refl, subst, Ok}
+use Rattle.std.proofs.Common.{refl}
 use Rattle.mvcc_engine.specs.Step as engine
 use Rattle.mvcc_engine.specs.Step.{Finished, step}
-use Rattle.script_text.specs.Grammar.{Compact}
+use Rattle.script_line.specs.Grammar.{Compact}
 use Rattle.script_text.specs.Text.{Accepted}
-use Rattle.script_run.specs.Output.{finished}
+use Rattle.script_run.specs.Output.{ScriptState, finished}
 use Rattle.script_run.proofs.PartLaws.{answers_unless_full-part}
 use Rattle.script_run.proofs.StepLaws.{taken}
 use Rattle.script_run.proofs.session.Session.compact.Goals as goal
 
 pub returns : goal.returns
 returns c =
-    taken c.args.text.now.items c.show.new.into.items c.args.self.now c.compact.new.self (Compact c.args.keep) finished (step c.args.self.now (engine.Compact c.args.keep)) refl Finished Accepted
-    (subst (λ t. step t (engine.Compact c.args.keep) ≡ Ok (record { state = c.compact.new.self; reply = Finished })) c.self.view_is c.in_ok-compact.ensures) refl c.in_ok-show.ensures.ok
+    let v : ScriptState = record { engine = c.self.inside.engine; txns = c.self.inside.txns; begun = c.self.inside.begun } in
+    taken c.args.text.now.items c.show.new.into.items v c.args.self.now c.self.view_is (Compact c.args.keep) finished (step v.engine (engine.Compact c.args.keep)) refl c.compact.new.self Finished Accepted
+    c.in_ok-compact.ensures refl c.in_ok-show.ensures.ok
 
 pub invariant_of-self-in_err-show : goal.invariant_of-self-in_err-show
 invariant_of-self-in_err-show c = answers_unless_full-part c.self.inside.engine c.compact.new.self _ c.self.invariant c.compact.result (λ done. Finished) c.compact.ensures

@@ -1,32 +1,50 @@
--- A deletion is a step of the engine.
-use Rattle.std.proofs.Common.{◌≡◌, refl, subst, Ok, ◌∙◌}
+-- A deletion is a write by its writer.
+use Rattle.std.proofs.Common.{refl}
 use Rattle.std.proofs.lemmas.Result.{err_from_is_err_and}
-use Rattle.mvcc_key.specs.views.Seen.{time_of}
-use Rattle.write_rule.specs.views.Seen.{Tells}
+use Rattle.txn_state.specs.views.Seen.{actor_of}
+use Rattle.write_rule.specs.Write as rule
+use Rattle.mvcc_engine.specs.Step.{Wrote, step}
 use Rattle.mvcc_engine.specs.views.Seen.{refusal_of}
-use Rattle.mvcc_engine.specs.Step as engine
-use Rattle.mvcc_engine.specs.Step.{WasThere, step}
-use Rattle.script_text.specs.Grammar.{Del}
+use Rattle.script_line.specs.Grammar.{Del}
 use Rattle.script_text.specs.Text.{Deleted}
-use Rattle.script_run.specs.Output.{deleted}
+use Rattle.script_line.specs.views.SeenLine.{who_of}
+use Rattle.script_run.specs.Output.{ScriptState, write_command, wrote}
+use Rattle.script_run.specs.views.Told.{told_by}
 use Rattle.script_run.proofs.PartLaws.{answers-part}
-use Rattle.script_run.proofs.StepLaws.{taken, refused}
+use Rattle.script_run.proofs.StepLaws.{by_writer, no_writer, refused, taken}
 use Rattle.script_run.proofs.session.Session.delete.Goals as goal
 
-pub returns-in_err-found : goal.returns-in_err-found
-returns-in_err-found c =
+pub returns-in_err-writer : goal.returns-in_err-writer
+returns-in_err-writer g c =
+    let v : ScriptState = record { engine = c.self.inside.engine; txns = c.self.inside.txns; begun = c.self.inside.begun } in
     let p = err_from_is_err_and c.from_residual.result c.from_residual.ensures.1 in
     rw (p.1, p.2)
-    (refused c.args.text.now.items c.args.text.now.items c.args.self.now c.delete_at.new.self (Del c.args.key.now (time_of c.args.ts)) deleted (step c.args.self.now (engine.Delete c.args.key.now (time_of c.args.ts))) refl (refusal_of c.in_err-found.field-0.0)
-    (subst (λ t. Tells (refusal_of c.in_err-found.field-0.0) (step t (engine.Delete c.args.key.now (time_of c.args.ts)))) c.self.view_is c.in_err-found.ensures.1) (c.in_err-found.ensures.0 ∙ c.self.view_is) refl)
+    (no_writer c.args.text.now.items c.args.text.now.items v c.args.self.now c.self.view_is (Del c.args.key.now (who_of c.args.who)) c.args.key.now (who_of c.args.who) (rule.Delete) refl
+    (told_by c.in_err-writer.field-0.0) c.in_err-writer.ensures refl)
+
+pub returns-in_err-found : goal.returns-in_err-found
+returns-in_err-found g c =
+    let v : ScriptState = record { engine = c.self.inside.engine; txns = c.self.inside.txns; begun = c.self.inside.begun } in
+    let text = c.args.text.now.items in
+    let writer = actor_of c.in_ok-writer.writer in
+    let p = err_from_is_err_and c.from_residual-in_err-found.result c.from_residual-in_err-found.ensures.1 in
+    rw (p.1, p.2)
+    (refused text text v c.args.self.now c.self.view_is (Del c.args.key.now (who_of c.args.who)) wrote (step v.engine (write_command c.args.key.now writer (rule.Delete)))
+    (by_writer text text v c.args.self.now c.self.view_is (Del c.args.key.now (who_of c.args.who)) c.args.key.now (who_of c.args.who) (rule.Delete) refl writer c.in_ok-writer.ensures)
+    c.delete.new.self (refusal_of c.in_err-found.field-0.0) c.in_err-found.ensures.answers.1 c.in_err-found.ensures.answers.0 refl)
 
 pub returns : goal.returns
-returns c =
-    taken c.args.text.now.items c.show.new.into.items c.args.self.now c.delete_at.new.self (Del c.args.key.now (time_of c.args.ts)) deleted (step c.args.self.now (engine.Delete c.args.key.now (time_of c.args.ts))) refl (WasThere c.in_ok-found.found) (Deleted c.in_ok-found.found)
-    (subst (λ t. step t (engine.Delete c.args.key.now (time_of c.args.ts)) ≡ Ok (record { state = c.delete_at.new.self; reply = (WasThere c.in_ok-found.found) })) c.self.view_is c.in_ok-found.ensures) refl c.in_ok-show.ensures.ok
+returns g c =
+    let v : ScriptState = record { engine = c.self.inside.engine; txns = c.self.inside.txns; begun = c.self.inside.begun } in
+    let old = c.args.text.now.items in
+    let new = c.show.new.into.items in
+    let writer = actor_of c.in_ok-writer.writer in
+    taken old new v c.args.self.now c.self.view_is (Del c.args.key.now (who_of c.args.who)) wrote (step v.engine (write_command c.args.key.now writer (rule.Delete)))
+    (by_writer old new v c.args.self.now c.self.view_is (Del c.args.key.now (who_of c.args.who)) c.args.key.now (who_of c.args.who) (rule.Delete) refl writer c.in_ok-writer.ensures)
+    c.delete.new.self (Wrote (rule.WasThere c.in_ok-found.found)) (Deleted c.in_ok-found.found) c.in_ok-found.ensures.answers refl c.in_ok-show.ensures.ok
 
 pub invariant_of-self-in_err-show : goal.invariant_of-self-in_err-show
-invariant_of-self-in_err-show c = answers-part c.self.inside.engine c.delete_at.new.self _ c.self.invariant c.delete_at.result WasThere c.delete_at.ensures
+invariant_of-self-in_err-show g c = answers-part c.self.inside.engine c.delete.new.self _ c.self.invariant c.delete.result (λ there. Wrote (rule.WasThere there)) c.delete.ensures.answers
 
 pub invariant_of-self-2 : goal.invariant_of-self-2
-invariant_of-self-2 c = answers-part c.self.inside.engine c.delete_at.new.self _ c.self.invariant c.delete_at.result WasThere c.delete_at.ensures
+invariant_of-self-2 g c = answers-part c.self.inside.engine c.delete.new.self _ c.self.invariant c.delete.result (λ there. Wrote (rule.WasThere there)) c.delete.ensures.answers

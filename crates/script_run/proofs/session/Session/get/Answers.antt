@@ -1,25 +1,46 @@
 -- A get is a read of the engine.
 use Rattle.std.proofs.Common.{◌≡◌, ◌++◌, refl, ap, ◌∙◌, Ok, subst}
 use Rattle.std.specs.Option.{option_map}
+use Rattle.std.proofs.lemmas.Result.{err_from_is_err_and}
 use Rattle.mvcc_key.specs.views.Seen.{time_of}
 use Rattle.mvcc_value.specs.views.Seen.{found_of}
+use Rattle.write_rule.specs.views.Seen as rule
 use Rattle.mvcc_engine.specs.Step as engine
 use Rattle.mvcc_engine.specs.Step.{step}
-use Rattle.script_text.specs.Grammar.{Get}
+use Rattle.mvcc_engine.specs.views.Seen.{refusal_of}
+use Rattle.script_line.specs.Grammar.{Get}
 use Rattle.script_text.specs.Text.{Got, show}
 use Rattle.script_text.specs.views.Seen.{answer_of}
-use Rattle.script_run.specs.Output.{got}
-use Rattle.script_run.proofs.StepLaws.{taken, lent}
+use Rattle.script_text.proofs.TextLaws.{Extends-same}
+use Rattle.script_run.specs.Output.{ScriptState, got}
+use Rattle.script_run.proofs.StepLaws.{taken, refused, lent}
 use Rattle.script_run.proofs.session.Session.get.Goals as goal
+
+pub returns-in_err-found : goal.returns-in_err-found
+returns-in_err-found c =
+    let s = c.args.self.now in
+    let text = c.args.text.now.items in
+    let ask = engine.Get c.args.key.now (time_of c.args.ts) in
+    let why = refusal_of c.in_err-found.field-0.0 in
+    let p = err_from_is_err_and c.from_residual.result c.from_residual.ensures.1 in
+    rw (p.1, p.2)
+    (refused text text s s refl (Get c.args.key.now (time_of c.args.ts)) (got c.args.key.now) (step s.engine ask) refl s.engine why
+    (subst (λ (t : ScriptState). rule.Tells why (step t.engine ask)) c.self.view_is c.in_err-found.ensures) refl refl)
+
+pub returns-in_err-show : goal.returns-in_err-show
+returns-in_err-show c =
+    let p = err_from_is_err_and c.from_residual-in_err-show.result c.from_residual-in_err-show.ensures.1 in
+    rw (p.1, p.2) (Extends-same c.args.text.now.items c.show.new.into.items c.in_err-show.ensures.err)
 
 pub returns : goal.returns
 returns c =
+    let s = c.args.self.now in
     let key = c.args.key.now in
     let ts = time_of c.args.ts in
     let found = option_map found_of c.in_ok-found.found in
     let is : answer_of c.of_read.result ≡ Got key found =
     c.of_read.ensures ∙ ap (Got key) (lent c.as_ref.result ∙ ap (option_map found_of) c.as_ref.ensures.value) in
-    taken c.args.text.now.items c.show.new.into.items c.args.self.now c.args.self.now (Get key ts) (got key) (step c.args.self.now (engine.Get key ts)) refl
+    taken c.args.text.now.items c.show.new.into.items s s refl (Get key ts) (got key) (step s.engine (engine.Get key ts)) refl s.engine
     (engine.Got found) (Got key found)
-    (subst (λ s. step s (engine.Get key ts) ≡ Ok (record { state = s; reply = engine.Got found })) c.self.view_is c.in_ok-found.ensures) refl
+    (subst (λ (t : ScriptState). step t.engine (engine.Get key ts) ≡ Ok (record { state = t.engine; reply = engine.Got found })) c.self.view_is c.in_ok-found.ensures) refl
     (c.in_ok-show.ensures.ok ∙ ap (λ a. c.args.text.now.items ++ show a) is)

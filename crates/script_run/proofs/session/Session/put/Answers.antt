@@ -1,33 +1,51 @@
--- A put is a step of the engine.
-use Rattle.std.proofs.Common.{◌≡◌, refl, subst, Ok, ◌∙◌}
+-- A put is a write by its writer.
+use Rattle.std.proofs.Common.{refl}
 use Rattle.std.proofs.lemmas.Result.{err_from_is_err_and}
-use Rattle.mvcc_key.specs.History.{Bytes}
-use Rattle.mvcc_key.specs.views.Seen.{time_of}
-use Rattle.write_rule.specs.views.Seen.{Tells}
+use Rattle.mvcc_value.specs.views.Seen.{plain_body}
+use Rattle.txn_state.specs.views.Seen.{actor_of}
+use Rattle.write_rule.specs.Write as rule
+use Rattle.mvcc_engine.specs.Step.{Wrote, step}
 use Rattle.mvcc_engine.specs.views.Seen.{refusal_of}
-use Rattle.mvcc_engine.specs.Step as engine
-use Rattle.mvcc_engine.specs.Step.{Finished, step}
-use Rattle.script_text.specs.Grammar.{Put}
+use Rattle.script_line.specs.Grammar.{Put}
 use Rattle.script_text.specs.Text.{Accepted}
-use Rattle.script_run.specs.Output.{finished}
+use Rattle.script_line.specs.views.SeenLine.{who_of}
+use Rattle.script_run.specs.Output.{ScriptState, write_command, wrote}
+use Rattle.script_run.specs.views.Told.{told_by}
 use Rattle.script_run.proofs.PartLaws.{answers-part}
-use Rattle.script_run.proofs.StepLaws.{taken, refused}
+use Rattle.script_run.proofs.StepLaws.{by_writer, no_writer, refused, taken}
 use Rattle.script_run.proofs.session.Session.put.Goals as goal
 
-pub returns-in_err-put_at : goal.returns-in_err-put_at
-returns-in_err-put_at c =
+pub returns-in_err-writer : goal.returns-in_err-writer
+returns-in_err-writer g c =
+    let v : ScriptState = record { engine = c.self.inside.engine; txns = c.self.inside.txns; begun = c.self.inside.begun } in
     let p = err_from_is_err_and c.from_residual.result c.from_residual.ensures.1 in
     rw (p.1, p.2)
-    (refused c.args.text.now.items c.args.text.now.items c.args.self.now c.put_at.new.self (Put c.args.key.now (time_of c.args.ts) (Bytes c.args.value.now)) finished (step c.args.self.now (engine.Put c.args.key.now (time_of c.args.ts) (Bytes c.args.value.now))) refl (refusal_of c.in_err-put_at.field-0.0)
-    (subst (λ t. Tells (refusal_of c.in_err-put_at.field-0.0) (step t (engine.Put c.args.key.now (time_of c.args.ts) (Bytes c.args.value.now)))) c.self.view_is c.in_err-put_at.ensures.1) (c.in_err-put_at.ensures.0 ∙ c.self.view_is) refl)
+    (no_writer c.args.text.now.items c.args.text.now.items v c.args.self.now c.self.view_is (Put c.args.key.now (plain_body c.args.value) (who_of c.args.who)) c.args.key.now (who_of c.args.who) (rule.Put (plain_body c.args.value)) refl
+    (told_by c.in_err-writer.field-0.0) c.in_err-writer.ensures refl)
+
+pub returns-in_err-put : goal.returns-in_err-put
+returns-in_err-put g c =
+    let v : ScriptState = record { engine = c.self.inside.engine; txns = c.self.inside.txns; begun = c.self.inside.begun } in
+    let text = c.args.text.now.items in
+    let writer = actor_of c.in_ok-writer.writer in
+    let p = err_from_is_err_and c.from_residual-in_err-put.result c.from_residual-in_err-put.ensures.1 in
+    rw (p.1, p.2)
+    (refused text text v c.args.self.now c.self.view_is (Put c.args.key.now (plain_body c.args.value) (who_of c.args.who)) wrote (step v.engine (write_command c.args.key.now writer (rule.Put (plain_body c.args.value))))
+    (by_writer text text v c.args.self.now c.self.view_is (Put c.args.key.now (plain_body c.args.value) (who_of c.args.who)) c.args.key.now (who_of c.args.who) (rule.Put (plain_body c.args.value)) refl writer c.in_ok-writer.ensures)
+    c.put.new.self (refusal_of c.in_err-put.field-0.0) c.in_err-put.ensures.answers.1 c.in_err-put.ensures.answers.0 refl)
 
 pub returns : goal.returns
-returns c =
-    taken c.args.text.now.items c.show.new.into.items c.args.self.now c.put_at.new.self (Put c.args.key.now (time_of c.args.ts) (Bytes c.args.value.now)) finished (step c.args.self.now (engine.Put c.args.key.now (time_of c.args.ts) (Bytes c.args.value.now))) refl Finished Accepted
-    (subst (λ t. step t (engine.Put c.args.key.now (time_of c.args.ts) (Bytes c.args.value.now)) ≡ Ok (record { state = c.put_at.new.self; reply = Finished })) c.self.view_is c.in_ok-put_at.ensures) refl c.in_ok-show.ensures.ok
+returns g c =
+    let v : ScriptState = record { engine = c.self.inside.engine; txns = c.self.inside.txns; begun = c.self.inside.begun } in
+    let old = c.args.text.now.items in
+    let new = c.show.new.into.items in
+    let writer = actor_of c.in_ok-writer.writer in
+    taken old new v c.args.self.now c.self.view_is (Put c.args.key.now (plain_body c.args.value) (who_of c.args.who)) wrote (step v.engine (write_command c.args.key.now writer (rule.Put (plain_body c.args.value))))
+    (by_writer old new v c.args.self.now c.self.view_is (Put c.args.key.now (plain_body c.args.value) (who_of c.args.who)) c.args.key.now (who_of c.args.who) (rule.Put (plain_body c.args.value)) refl writer c.in_ok-writer.ensures)
+    c.put.new.self (Wrote (rule.Done)) (Accepted) c.in_ok-put.ensures.answers refl c.in_ok-show.ensures.ok
 
 pub invariant_of-self-in_err-show : goal.invariant_of-self-in_err-show
-invariant_of-self-in_err-show c = answers-part c.self.inside.engine c.put_at.new.self _ c.self.invariant c.put_at.result (λ done. Finished) c.put_at.ensures
+invariant_of-self-in_err-show g c = answers-part c.self.inside.engine c.put.new.self _ c.self.invariant c.put.result (λ done. Wrote rule.Done) c.put.ensures.answers
 
 pub invariant_of-self-2 : goal.invariant_of-self-2
-invariant_of-self-2 c = answers-part c.self.inside.engine c.put_at.new.self _ c.self.invariant c.put_at.result (λ done. Finished) c.put_at.ensures
+invariant_of-self-2 g c = answers-part c.self.inside.engine c.put.new.self _ c.self.invariant c.put.result (λ done. Wrote rule.Done) c.put.ensures.answers

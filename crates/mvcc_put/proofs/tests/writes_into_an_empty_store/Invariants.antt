@@ -1,0 +1,4 @@
+use Rattle.mvcc_put.proofs.tests.writes_into_an_empty_store.Given as goal
+
+abbrev pub ghosts-comes_to : goal.ghosts-comes_to
+ghosts-comes_to g a = record { name = a.blank.name; parts = a.blank.parts }

@@ -1,0 +1,3 @@
+pub mod PlannedPut
+pub mod WriteLooks
+pub mod views

@@ -1,0 +1,289 @@
+-- What texts, lines and command lines mean, computed from the definitions.
+use Rattle.std.specs.Prelude.{◌≡◌, ℕ, Bool, true, false, List, [], ◌∷◌, ◌++◌, map, replicate, Option, Some, None, is_none, codes, refl, ⊤, pos, negsuc}
+use Rattle.std.specs.List.{list_all}
+use Rattle.mvcc_key.specs.Order.{Timestamp, no_time}
+use Rattle.mvcc_key.specs.History.{Bytes, Int}
+use Rattle.uuid.specs.Text.{by_index}
+use Rattle.script_line.specs.Forms as forms
+use Rattle.script_line.specs.Forms.{text, number_up_to, number_in, number_from, integer, nanos, wall}
+use Rattle.script_line.specs.Words.{words, has, are_only, value_of}
+use Rattle.script_line.specs.Grammar as grammar
+use Rattle.script_line.specs.Grammar.{Who, AtTime, InTxn, Blank, TxnBegin, TxnStep, TxnAdvance, TxnRestart, TxnRefresh, TxnIgnoreSeqs, TxnRemove, Put, Del, ConditionalPut, InitPut, Increment, Get, Age, Stats, Flush, Compact, Layout, command, txn_command, parse_words, parse}
+use Rattle.script_line.specs.CommandLine.{Invocation, Run, invocation, given_options, options_of, run_options}
+
+-- what an example unfolds
+unfoldable pub on_words : ⊤
+unfolding by_index forms.name text number_up_to number_in integer forms.range forms.ranges forms.id nanos wall forms.time words has are_only value_of grammar.txn_begin grammar.txn_step grammar.txn_advance grammar.txn_restart grammar.txn_refresh grammar.txn_ignore_seqs grammar.txn_remove grammar.put grammar.del grammar.cput grammar.initput grammar.increment grammar.get grammar.age grammar.alone grammar.compact txn_command command parse_words parse invocation given_options options_of run_options
+on_words = tt
+
+-- TEXT: bytes that stand for themselves
+empty_text : text [] ≡ Some []
+unfolding on_words
+empty_text = refl
+
+printed_bytes : text (codes "!\"#$%&'()*+,-./09:;<=>?@AZ[]^_`az{|}~") ≡ Some (codes "!\"#$%&'()*+,-./09:;<=>?@AZ[]^_`az{|}~")
+unfolding on_words
+printed_bytes = refl
+
+-- a byte that is not printed stands nowhere in a text
+unprinted_bytes : list_all (λ b. is_none (text (b ∷ []))) (0x00 ∷ 0x09 ∷ 0x0a ∷ 0x0d ∷ 0x1f ∷ 0x20 ∷ 0x7f ∷ 0x80 ∷ 0xff ∷ []) ≡ true
+unfolding on_words
+unprinted_bytes = refl
+
+unprinted_behind : list_all (λ b. is_none (text (0x61 ∷ b ∷ 0x61 ∷ []))) (0x00 ∷ 0x0d ∷ 0x20 ∷ 0x7f ∷ 0xff ∷ []) ≡ true
+unfolding on_words
+unprinted_behind = refl
+
+-- escapes
+backslash : text (0x5c ∷ 0x5c ∷ []) ≡ Some (0x5c ∷ [])
+unfolding on_words
+backslash = refl
+
+two_backslashes : text (0x5c ∷ 0x5c ∷ 0x5c ∷ 0x5c ∷ []) ≡ Some (0x5c ∷ 0x5c ∷ [])
+unfolding on_words
+two_backslashes = refl
+
+small_digits : text (codes "\\x01\\x23\\x45\\x67\\x89\\xab\\xcd\\xef") ≡ Some (0x01 ∷ 0x23 ∷ 0x45 ∷ 0x67 ∷ 0x89 ∷ 0xab ∷ 0xcd ∷ 0xef ∷ [])
+unfolding on_words
+small_digits = refl
+
+capital_digits : text (codes "\\xAB\\xCD\\xEF\\xaB\\xCd\\xFf") ≡ Some (0xab ∷ 0xcd ∷ 0xef ∷ 0xab ∷ 0xcd ∷ 0xff ∷ [])
+unfolding on_words
+capital_digits = refl
+
+any_byte : text (codes "\\x00\\x09\\x0a\\x0d\\x20\\x22\\x5c\\x7f\\xff") ≡ Some (0x00 ∷ 0x09 ∷ 0x0a ∷ 0x0d ∷ 0x20 ∷ 0x22 ∷ 0x5c ∷ 0x7f ∷ 0xff ∷ [])
+unfolding on_words
+any_byte = refl
+
+-- what an escape writes begins no other
+escapes_side_by_side : text (codes "a\\\\x41\\x5cx41\\x41b") ≡ Some (codes "a\\x41\\x41Ab")
+unfolding on_words
+escapes_side_by_side = refl
+
+-- bad escapes: cut short, another letter, and what is no digit in either place
+cut_short : list_all (λ t. is_none (text t)) (codes "\\" ∷ codes "a\\" ∷ codes "\\\\\\" ∷ codes "\\x" ∷ codes "\\x4" ∷ codes "a\\x" ∷ codes "a\\x4" ∷ codes "\\\\\\x4" ∷ []) ≡ true
+unfolding on_words
+cut_short = refl
+
+other_letters : list_all (λ t. is_none (text t)) (codes "\\n" ∷ codes "\\X41" ∷ codes "\\0" ∷ codes "\\u0041" ∷ codes "\\\"" ∷ codes "\\ " ∷ []) ≡ true
+unfolding on_words
+other_letters = refl
+
+no_digits : list_all (λ t. is_none (text t))
+    (codes "\\xg0" ∷ codes "\\x0g" ∷ codes "\\xG0" ∷ codes "\\x0G" ∷ codes "\\x/0" ∷ codes "\\x0:" ∷ codes "\\x@0" ∷ codes "\\x0`" ∷ codes "\\x 0" ∷ codes "\\x0 " ∷ codes "\\xx41"
+    ∷ codes "\\x\\41" ∷ codes "\\x4\\1" ∷ codes "\\x\\\\" ∷ codes "\\x4\\\\" ∷ [])
+    ≡ true
+unfolding on_words
+no_digits = refl
+
+-- what is written at a second
+abbrev one_second : Timestamp
+one_second = record { wall = 1000000000; logical = 0 }
+
+abbrev at_one : Who
+at_one = AtTime one_second
+
+-- words: spaces and tabs part them, and nothing else
+parted : parse (codes " \t put\t k=a  v=abc\t\tts=1 \t") ≡ Some (Put (codes "a") (Bytes (codes "abc")) at_one)
+unfolding on_words
+parted = refl
+
+blank_lines : map parse (codes "" ∷ codes " \t " ∷ codes "# put k=a" ∷ codes "\t#" ∷ codes "#=" ∷ []) ≡ Some Blank ∷ Some Blank ∷ Some Blank ∷ Some Blank ∷ Some Blank ∷ []
+unfolding on_words
+blank_lines = refl
+
+-- a word is cut at its first equals sign, and its value may be empty
+first_equals_sign : parse (codes "put k==b=c ts=1 v=") ≡ Some (Put (codes "=b=c") (Bytes []) at_one)
+unfolding on_words
+first_equals_sign = refl
+
+lines_in_any_order : map parse (codes "put v=x ts=1 k=a" ∷ codes "put ts=1 k=a v=x" ∷ [])
+    ≡ Some (Put (codes "a") (Bytes (codes "x")) at_one) ∷ Some (Put (codes "a") (Bytes (codes "x")) at_one) ∷ []
+unfolding on_words
+lines_in_any_order = refl
+
+each_command : map parse (codes "get k=a ts=2" ∷ codes "del k=a ts=1,2" ∷ codes "age now=0.9" ∷ codes "stats\t" ∷ codes "flush" ∷ codes "compact keep=2" ∷ codes "layout" ∷ [])
+    ≡ Some (Get (codes "a") (record { wall = 2000000000; logical = 0 })) ∷ Some (Del (codes "a") (AtTime (record { wall = 1000000000; logical = 2 }))) ∷ Some (Age 900000000) ∷ Some Stats
+    ∷ Some Flush ∷ Some (Compact 2) ∷ Some Layout ∷ []
+unfolding on_words
+each_command = refl
+
+-- a name twice, wanting or unknown, a flag for a value, another command, and bytes that are no blanks
+lines_without_a_reading : list_all (λ l. is_none (parse l))
+    (codes "put k=a k=b ts=1 v=x" ∷ codes "put k=a ts=1 ts=1 v=x" ∷ codes "put k=a ts=1 v=x v=x" ∷ codes "put k=a ts=1" ∷ codes "put ts=1 v=x" ∷ codes "put k=a v=x" ∷ codes "put k=a ts=1 v=x int=1"
+    ∷ codes "put k ts=1 v=x" ∷ codes "get k=a ts=1 k" ∷ codes "get k=a" ∷ codes "get k=a ts=1 v=x" ∷ codes "del k=a ts=1 =" ∷ codes "age" ∷ codes "age now" ∷ codes "age now=5,0" ∷ codes "age now=1 now=1"
+    ∷ codes "stats now" ∷ codes "flush x" ∷ codes "layout keep=1" ∷ codes "compact" ∷ codes "compact keep=0" ∷ codes "compact keep=1 keep=1" ∷ codes "Put k=a ts=1 v=x" ∷ codes "putt k=a ts=1 v=x" ∷ codes "=" ∷ codes "k=a put"
+    ∷ (codes "get k=a" ++ 0x0d ∷ codes " ts=1") ∷ (codes "get k=a" ++ 0x0b ∷ codes "ts=1") ∷ (codes "stats" ++ 0x0d ∷ []) ∷ (codes "stats" ++ 0x00 ∷ []) ∷ [])
+    ≡ true
+unfolding on_words
+lines_without_a_reading = refl
+
+-- a write by a transaction, or at a timestamp; a value that is bytes, or a number
+writes : map parse (codes "put t=A k=a v=abc" ∷ codes "put k=a int=-3 ts=1" ∷ codes "del k=a t=A" ∷ codes "initput k=a ts=1 v=" ∷ codes "initput int=7 t=A k=a" ∷ codes "increment k=a ts=1" ∷ codes "increment inc=-30 k=a t=A" ∷ [])
+    ≡ Some (Put (codes "a") (Bytes (codes "abc")) (InTxn (codes "A"))) ∷ Some (Put (codes "a") (Int (negsuc 2)) at_one) ∷ Some (Del (codes "a") (InTxn (codes "A"))) ∷ Some (InitPut (codes "a") (Bytes []) at_one)
+    ∷ Some (InitPut (codes "a") (Int (pos 7)) (InTxn (codes "A"))) ∷ Some (Increment (codes "a") at_one (pos 1)) ∷ Some (Increment (codes "a") (InTxn (codes "A")) (negsuc 29)) ∷ []
+unfolding on_words
+writes = refl
+
+-- conditions: none, bytes that may be empty, or a number
+conditions : map parse (codes "cput k=a ts=1 v=x" ∷ codes "cput k=a t=A int=1 cond=abc" ∷ codes "cput cond= k=a ts=1 v=x" ∷ codes "cput k=a ts=1 v=x cond_int=-1" ∷ [])
+    ≡ Some (ConditionalPut (codes "a") (Bytes (codes "x")) at_one None) ∷ Some (ConditionalPut (codes "a") (Int (pos 1)) (InTxn (codes "A")) (Some (Bytes (codes "abc"))))
+    ∷ Some (ConditionalPut (codes "a") (Bytes (codes "x")) at_one (Some (Bytes []))) ∷ Some (ConditionalPut (codes "a") (Bytes (codes "x")) at_one (Some (Int (negsuc 0)))) ∷ []
+unfolding on_words
+conditions = refl
+
+-- an id: fifteen zeros and a byte
+abbrev id_of : ℕ → List ℕ
+id_of b = replicate 15 0 ++ b ∷ []
+
+-- changes of transactions
+changes_of_transactions : map parse
+    (codes "txn_begin t=A ts=1" ∷ codes "txn_begin id=000000000000000000000000000000ff limit=1 ts=0 t=b-2" ∷ codes "txn_step t=A" ∷ codes "txn_step n=2147483647 t=A" ∷ codes "txn_advance t=A ts=1"
+    ∷ codes "txn_restart t=A" ∷ codes "txn_restart ts=1 t=A" ∷ codes "txn_refresh t=A" ∷ codes "txn_ignore_seqs t=A seqs=1-1,3-2" ∷ codes "txn_remove t=A" ∷ [])
+    ≡ Some (TxnBegin (codes "A") one_second no_time None) ∷ Some (TxnBegin (codes "b-2") no_time one_second (Some (id_of 0xff))) ∷ Some (TxnStep (codes "A") 1) ∷ Some (TxnStep (codes "A") 2147483647)
+    ∷ Some (TxnAdvance (codes "A") one_second) ∷ Some (TxnRestart (codes "A") no_time) ∷ Some (TxnRestart (codes "A") one_second) ∷ Some (TxnRefresh (codes "A"))
+    ∷ Some (TxnIgnoreSeqs (codes "A") (record { first = 1; last = 1 } ∷ record { first = 3; last = 2 } ∷ [])) ∷ Some (TxnRemove (codes "A")) ∷ []
+unfolding on_words
+changes_of_transactions = refl
+
+-- both or neither of t and ts, or of v and int; both conditions
+words_against_each_other : list_all (λ l. is_none (parse l))
+    (codes "put k=a v=x" ∷ codes "put k=a v=x t=A ts=1" ∷ codes "put k=a ts=1" ∷ codes "put k=a ts=1 v=x int=1" ∷ codes "del k=a" ∷ codes "del k=a t=A ts=1" ∷ codes "cput k=a v=x" ∷ codes "cput k=a v=x t=A ts=1"
+    ∷ codes "cput k=a ts=1" ∷ codes "cput k=a ts=1 v=x int=1" ∷ codes "cput k=a ts=1 v=x cond=x cond_int=1" ∷ codes "initput k=a v=x" ∷ codes "initput k=a v=x t=A ts=1" ∷ codes "initput k=a t=A"
+    ∷ codes "initput k=a t=A v=x int=1" ∷ codes "increment k=a" ∷ codes "increment k=a t=A ts=1" ∷ [])
+    ≡ true
+unfolding on_words
+words_against_each_other = refl
+
+-- words that a command does not have, has once, or wants
+other_words : list_all (λ l. is_none (parse l))
+    (codes "put k=a ts=1 v=x cond=x" ∷ codes "put t=A t=B k=a v=x" ∷ codes "put t k=a v=x" ∷ codes "put k=a ts=1 v=x local=1" ∷ codes "del t=A k=a local=1" ∷ codes "get t=A k=a" ∷ codes "cput ts=1 v=x"
+    ∷ codes "cput k=a ts=1 v=x cond=x cond=x" ∷ codes "cput k=a ts=1 v=x local=1" ∷ codes "initput k=a ts=1 v=x cond=x" ∷ codes "initput k=a ts=1 v=x local=1" ∷ codes "increment ts=1" ∷ codes "increment k=a ts=1 v=x"
+    ∷ codes "increment k=a ts=1 inc=1 inc=1" ∷ codes "increment k=a ts=1 local=1" ∷ codes "txn_begin t=A" ∷ codes "txn_begin ts=1" ∷ codes "txn_begin t=A ts=1 n=1" ∷ codes "txn_step" ∷ codes "txn_step t=A n"
+    ∷ codes "txn_advance t=A" ∷ codes "txn_restart" ∷ codes "txn_refresh" ∷ codes "txn_refresh t=A ts=1" ∷ codes "txn_ignore_seqs t=A" ∷ codes "txn_remove" ∷ codes "txn_remove t=A t=A" ∷ codes "txn" ∷ codes "txn_ t=A" ∷ [])
+    ≡ true
+unfolding on_words
+other_words = refl
+
+-- a name, an id, ranges, a time or a number that is none
+values_without_a_reading : list_all (λ l. is_none (parse l))
+    (codes "put t= k=a v=x" ∷ codes "put t=a.b k=a v=x" ∷ codes "put k=a ts=x v=x" ∷ codes "put k=a ts=1 v=\\x" ∷ codes "put k=a ts=1 int=" ∷ codes "put k=a ts=1 int=1x" ∷ codes "del t=A= k=a" ∷ codes "cput k=a ts=1 v=x cond=\\"
+    ∷ codes "cput k=a ts=1 v=x cond_int=+1" ∷ codes "initput k=a t=a+b v=x" ∷ codes "increment k=a ts=1 inc=9223372036854775808" ∷ codes "increment k=a ts=1 inc=-9223372036854775809" ∷ codes "txn_begin t=\"A\" ts=1"
+    ∷ codes "txn_begin t=A ts=1,2147483648" ∷ codes "txn_begin t=A ts=1 limit=-1" ∷ codes "txn_begin t=A ts=1 limit=" ∷ codes "txn_begin t=A ts=1 id=" ∷ codes "txn_begin t=A ts=1 id=1" ∷ codes "txn_step t=A n=2147483648"
+    ∷ codes "txn_step t=A n=-1" ∷ codes "txn_step t=A n=00000000000000000001" ∷ codes "txn_advance t=A ts=1." ∷ codes "txn_restart t=A ts=" ∷ codes "txn_ignore_seqs t=A seqs=" ∷ codes "txn_ignore_seqs t=A seqs=1-2,"
+    ∷ codes "txn_ignore_seqs t=A seqs=0-4294967296" ∷ [])
+    ≡ true
+unfolding on_words
+values_without_a_reading = refl
+
+-- NAME
+names : map forms.name (codes "A" ∷ codes "azAZ09_-" ∷ codes "-" ∷ replicate 64 0x61 ∷ []) ≡ Some (codes "A") ∷ Some (codes "azAZ09_-") ∷ Some (codes "-") ∷ Some (replicate 64 0x61) ∷ []
+unfolding on_words
+names = refl
+
+no_names : list_all (λ n. is_none (forms.name n)) ([] ∷ replicate 65 0x61 ∷ codes "a.b" ∷ codes "a/b" ∷ codes "a:b" ∷ codes "a@b" ∷ codes "a[b" ∷ codes "a`b" ∷ codes "a{b" ∷ codes "a b" ∷ codes "\\x61" ∷ (0xc3 ∷ 0xa4 ∷ []) ∷ (0x61 ∷ 0x00 ∷ []) ∷ []) ≡ true
+unfolding on_words
+no_names = refl
+
+-- INT at its ends
+integers : map integer (codes "0" ∷ codes "-0" ∷ codes "9223372036854775807" ∷ codes "-9223372036854775808" ∷ codes "0000000000000000001" ∷ codes "-0000000000000000001" ∷ [])
+    ≡ Some (pos 0) ∷ Some (pos 0) ∷ Some (pos 9223372036854775807) ∷ Some (negsuc 9223372036854775807) ∷ Some (pos 1) ∷ Some (negsuc 0) ∷ []
+unfolding on_words
+integers = refl
+
+no_integers : list_all (λ n. is_none (integer n))
+    ([] ∷ codes "-" ∷ codes "--1" ∷ codes "+1" ∷ codes "1-" ∷ codes "1.0" ∷ codes "9223372036854775808" ∷ codes "-9223372036854775809" ∷ codes "00000000000000000001" ∷ codes "-00000000000000000001" ∷ []) ≡ true
+unfolding on_words
+no_integers = refl
+
+-- SEQS: numbers up to 2^32-1, in any order
+ranges_of_sequences : map forms.ranges (codes "1-2" ∷ codes "3-2,0-4294967295,0000000000000000001-1" ∷ [])
+    ≡ Some (record { first = 1; last = 2 } ∷ []) ∷ Some (record { first = 3; last = 2 } ∷ record { first = 0; last = 4294967295 } ∷ record { first = 1; last = 1 } ∷ []) ∷ []
+unfolding on_words
+ranges_of_sequences = refl
+
+no_ranges : list_all (λ r. is_none (forms.ranges r))
+    ([] ∷ codes "," ∷ codes "1" ∷ codes "1-" ∷ codes "-1" ∷ codes "-" ∷ codes "1-2," ∷ codes ",1-2" ∷ codes "1-2,,3-4" ∷ codes "1-2-3" ∷ codes "1--2" ∷ codes "+1-2" ∷ codes "1-2;3-4" ∷ codes "4294967296-1" ∷ codes "0-4294967296" ∷ []) ≡ true
+unfolding on_words
+no_ranges = refl
+
+-- UUID in each of its forms
+ids : map forms.id (codes "0123456789abcdefABCDEF0123456789" ∷ codes "01234567-89ab-cdef-ABCD-EF0123456789" ∷ codes "{01234567-89AB-CDEF-abcd-ef0123456789}" ∷ codes "urn:uuid:01234567-89ab-cdef-abcd-ef0123456789" ∷ [])
+    ≡ replicate 4 (Some (0x01 ∷ 0x23 ∷ 0x45 ∷ 0x67 ∷ 0x89 ∷ 0xab ∷ 0xcd ∷ 0xef ∷ 0xab ∷ 0xcd ∷ 0xef ∷ 0x01 ∷ 0x23 ∷ 0x45 ∷ 0x67 ∷ 0x89 ∷ []))
+unfolding on_words
+ids = refl
+
+no_ids : list_all (λ i. is_none (forms.id i))
+    ([] ∷ codes "0123456789abcdefabcdef012345678" ∷ codes "0123456789abcdefabcdef0123456789a" ∷ codes "0123456789abcdefabcdef012345678g" ∷ codes "0123456-789ab-cdef-abcd-ef0123456789" ∷ codes "{0123456789abcdefabcdef0123456789}"
+    ∷ codes "{01234567-89ab-cdef-abcd-ef0123456789)" ∷ codes "URN:UUID:01234567-89ab-cdef-abcd-ef0123456789" ∷ codes "urn:uuid:0123456789abcdefabcdef0123456789" ∷ []) ≡ true
+unfolding on_words
+no_ids = refl
+
+-- TIME and NUM at their ends
+times : map forms.time (codes "0" ∷ codes "1.5" ∷ codes "0.000000001,2147483647" ∷ codes "9223372036.854775807" ∷ codes "000000000000000000000000003,00" ∷ [])
+    ≡ Some (record { wall = 0; logical = 0 }) ∷ Some (record { wall = 1500000000; logical = 0 }) ∷ Some (record { wall = 1; logical = 2147483647 }) ∷ Some (record { wall = 9223372036854775807; logical = 0 })
+    ∷ Some (record { wall = 3000000000; logical = 0 }) ∷ []
+unfolding on_words
+times = refl
+
+no_times : list_all (λ t. is_none (forms.time t))
+    (codes "" ∷ codes "1." ∷ codes ".5" ∷ codes "1.0000000000" ∷ codes "1," ∷ codes ",1" ∷ codes "1,2147483648" ∷ codes "1,2,3" ∷ codes "1.2.3" ∷ codes "+1" ∷ codes "-1" ∷ codes "9223372037" ∷ codes "9223372036.854775808" ∷ [])
+    ≡ true
+unfolding on_words
+no_times = refl
+
+numbers : map (number_from 1) (codes "1" ∷ codes "9223372036854775807" ∷ codes "0000000000000000001" ∷ []) ≡ Some 1 ∷ Some 9223372036854775807 ∷ Some 1 ∷ []
+unfolding on_words
+numbers = refl
+
+no_numbers : list_all (λ n. is_none (number_from 1 n)) (codes "" ∷ codes "0" ∷ codes "9223372036854775808" ∷ codes "00000000000000000001" ∷ codes "+1" ∷ codes "1x" ∷ []) ≡ true
+unfolding on_words
+no_numbers = refl
+
+-- options: each alone, in any order, the value behind an equals sign or in the next word
+abbrev run_with : Bool → ℕ → Option Invocation
+run_with stats count_max = Some (Run (record { stats = stats; count_max = count_max }))
+
+no_options : invocation (codes "run" ∷ []) ≡ run_with false 9223372036854775807
+unfolding on_words
+no_options = refl
+
+statistics_option : invocation (codes "run" ∷ codes "--stats" ∷ []) ≡ run_with true 9223372036854775807
+unfolding on_words
+statistics_option = refl
+
+bound_in_the_next_word : invocation (codes "run" ∷ codes "--count-max" ∷ codes "100" ∷ []) ≡ run_with false 100
+unfolding on_words
+bound_in_the_next_word = refl
+
+bound_behind_the_sign : invocation (codes "run" ∷ codes "--count-max=1" ∷ []) ≡ run_with false 1
+unfolding on_words
+bound_behind_the_sign = refl
+
+statistics_first : invocation (codes "run" ∷ codes "--stats" ∷ codes "--count-max=100" ∷ []) ≡ run_with true 100
+unfolding on_words
+statistics_first = refl
+
+statistics_last : invocation (codes "run" ∷ codes "--count-max" ∷ codes "100" ∷ codes "--stats" ∷ []) ≡ run_with true 100
+unfolding on_words
+statistics_last = refl
+
+greatest_bounds : map (λ n. invocation (codes "run" ∷ codes "--count-max" ∷ n ∷ [])) (codes "9223372036854775807" ∷ codes "09223372036854775807" ∷ codes "00000000000000000001" ∷ [])
+    ≡ run_with false 9223372036854775807 ∷ run_with false 9223372036854775807 ∷ run_with false 1 ∷ []
+unfolding on_words
+greatest_bounds = refl
+
+no_bounds : list_all (λ n. is_none (invocation (codes "run" ∷ codes "--count-max" ∷ n ∷ [])))
+    (codes "" ∷ codes "0" ∷ codes "9223372036854775808" ∷ codes "000000000000000000001" ∷ codes "+1" ∷ codes "1 " ∷ codes "=1" ∷ codes "--stats" ∷ codes "--count-max" ∷ [])
+    ≡ true
+unfolding on_words
+no_bounds = refl
+
+words_without_a_reading : list_all (λ ws. is_none (invocation ws))
+    ([] ∷ (codes "" ∷ []) ∷ (codes "Run" ∷ []) ∷ (codes "run=" ∷ []) ∷ (codes "run" ∷ codes "run" ∷ []) ∷ (codes "run" ∷ codes "" ∷ []) ∷ (codes "run" ∷ codes "--" ∷ []) ∷ (codes "run" ∷ codes "--" ∷ codes "--stats" ∷ [])
+    ∷ (codes "run" ∷ codes "--stats=" ∷ []) ∷ (codes "run" ∷ codes "--stats=x" ∷ []) ∷ (codes "run" ∷ codes "--stat" ∷ []) ∷ (codes "run" ∷ codes "--stats" ∷ codes "--stats" ∷ []) ∷ (codes "run" ∷ codes "--stats" ∷ codes "" ∷ [])
+    ∷ (codes "run" ∷ codes "--count-max" ∷ []) ∷ (codes "run" ∷ codes "--count-max=" ∷ []) ∷ (codes "run" ∷ codes "--count-max=0" ∷ []) ∷ (codes "run" ∷ codes "--count-max=1" ∷ codes "1" ∷ [])
+    ∷ (codes "run" ∷ codes "--count-max" ∷ codes "1" ∷ codes "--count-max=2" ∷ []) ∷ (codes "run" ∷ codes "--fast" ∷ []) ∷ (codes "run" ∷ codes "--fast=1" ∷ []) ∷ (codes "run" ∷ codes "--fast" ∷ codes "1" ∷ []) ∷ [])
+    ≡ true
+unfolding on_words
+words_without_a_reading = refl

@@ -1,0 +1,22 @@
+//! What the lines of a script and the words of a command line say.
+#![tactic(auto)]
+
+mod command_line;
+mod cutting;
+mod fault;
+mod forms;
+mod grammar;
+mod line;
+mod options;
+mod txn_commands;
+mod unescape;
+mod words;
+
+pub use command_line::{Options, read_command_line};
+pub use fault::LineFault;
+pub use forms::{RunCount, WallTime};
+pub use grammar::parse_line;
+pub use line::{Line, Value, Who};
+
+#[cfg(test)]
+mod tests;
