@@ -18,3 +18,4 @@ pub mod LongKeyLaws
 pub mod ReadBackLaws
 pub mod EmptyLaws
 pub mod FilledLaws
+pub mod ManyLaws

@@ -8,3 +8,4 @@ pub mod Newer
 pub mod ToldWhole
 pub mod Seen
 pub mod Filled
+pub mod Many

@@ -103,17 +103,35 @@ impl<'s> MvccCursor<'s> {
         requires { IsWellFormed (history_in store.now) store.now }
         ensures { IfOk result (λ c. seen c ≡ standing_over store.now) }
     {
-        let mut sought = Vec::with_capacity(alloc, ROOM)?;
-        name_record(&mut sought, &[]);
+        MvccCursor::with_buffer(Vec::new(alloc), store)
+    }
+
+    /// A cursor before the first key, as [`MvccCursor::over`] makes it, with a buffer that the caller lends for the names that are
+    /// sought. What it holds is dropped, and one that has room for 4,111 bytes, as those of [`MvccCursor::into_buffer`] have, takes
+    /// no memory.
+    pub fn with_buffer(mut buffer: Vec<u8>, store: &'s Store) -> Result<MvccCursor<'s>, OutOfMemory>
+        requires { IsWellFormed (history_in store.now) store.now }
+        ensures { IfOk result (λ c. seen c ≡ standing_over store.now) }
+    {
+        buffer.clear();
+        buffer.reserve_exact(ROOM)?;
+        name_record(&mut buffer, &[]);
         Ok(MvccCursor {
             places: Places::over(store)?,
-            sought,
+            sought: buffer,
             stand: Stand::Before,
             stored: false,
             intent: false,
             given: false,
             stack: &[],
         })
+    }
+
+    /// Gives the buffer back, for another cursor. It has room for 4,111 bytes.
+    pub fn into_buffer(self) -> Vec<u8>
+        ensures { 4111 ≤ vec_capacity result }
+    {
+        self.sought
     }
 
     /// Goes to the first stored key at or above the given one, or past the last. Of a key above 4,097 bytes these many decide, which

@@ -27,7 +27,7 @@ pub(crate) fn at(wall: u64) -> Timestamp
 }
 
 /// The encoded bytes of a value of one byte.
-fn value(alloc: Global, byte: u8, wall: u64) -> Result<Bytes, OutOfMemory>
+pub(crate) fn value(alloc: Global, byte: u8, wall: u64) -> Result<Bytes, OutOfMemory>
     requires { wall < 2 ^ 63 }
     ensures { IfOk result (λ b. b ≡ plain byte wall) }
 {

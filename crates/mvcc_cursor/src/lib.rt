@@ -18,4 +18,8 @@ pub use version_ref::VersionRef;
 #[cfg(test)]
 mod filled;
 #[cfg(test)]
+mod many;
+#[cfg(test)]
 mod tests;
+#[cfg(test)]
+mod time_tests;

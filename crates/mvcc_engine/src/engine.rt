@@ -26,7 +26,7 @@ use crate::reading::get;
 use crate::refusal::{AgeFault, Refusal};
 use lsm_store::{PartShape, Store};
 use mvcc_key::{Looks, OutOfMemory, Timestamp};
-use mvcc_put::plan_put;
+use mvcc_put::plan_put_with;
 use mvcc_value::{Found, PlainValue};
 use stat_core::Stats;
 use std::alloc::Global;
@@ -43,6 +43,8 @@ pub struct Engine {
     alloc: Global,
     store: Store,
     stats: Stats,
+    /// What a cursor needs for the names that it seeks, kept from one to the next. It says nothing of the state.
+    buffer: Vec<u8>,
 }
 
 impl Model for Engine {
@@ -67,6 +69,7 @@ impl Engine {
             alloc,
             store: Store::new(alloc),
             stats: Stats::new(count_max),
+            buffer: Vec::new(alloc),
         }
     }
 
@@ -175,7 +178,16 @@ impl Engine {
     pub fn get_at(&self, key: &[u8], ts: Timestamp) -> Result<Option<Found>, Refusal>
         ensures { AnswersRead result (λ found. Got (option_map found_of found)) self.now (step self.now (Get key.now (time_of ts))) }
     {
-        get(self.alloc, &self.store, key, ts)
+        get(&mut Vec::new(self.alloc), self.alloc, &self.store, key, ts)
+    }
+
+    /// The same as [`Engine::get_at`] where the engine is the caller's alone: its cursor takes the buffer that the engine keeps, so
+    /// that the read takes less memory. The engine stays as it is.
+    pub fn get_buffered(&mut self, key: &[u8], ts: Timestamp) -> Result<Option<Found>, Refusal>
+        ensures answers { AnswersRead result (λ found. Got (option_map found_of found)) self.old (step self.old (Get key.now (time_of ts))) }
+        ensures same { self.new ≡ self.old }
+    {
+        get(&mut self.buffer, self.alloc, &self.store, key, ts)
     }
 
     /// Ages the statistics to a moment, in nanoseconds of wall time.
@@ -234,7 +246,15 @@ impl Engine {
         ensures looks { looks.new ≤ looks.old + looks_at self.old key.now }
     {
         let last = self.stats.last_update_nanos();
-        let (change, answer) = plan_put(self.alloc, &self.store, last, key, request, looks)?;
+        let (change, answer) = plan_put_with(
+            &mut self.buffer,
+            self.alloc,
+            &self.store,
+            last,
+            key,
+            request,
+            looks,
+        )?;
         let mut stats = self.stats;
         stats.settle(&change.delta, change.last)?;
         self.store.apply(change.batch)?;

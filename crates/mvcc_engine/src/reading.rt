@@ -26,11 +26,13 @@ use mvcc_value::{Body, Found, OwnedValue, read};
 use read_rule::{Decision, ReadOptions, ReadRequest, decide};
 use std::alloc::Global;
 use std::marker::Brand;
+use std::mem;
 use std::sync::ledger::{Blank, Ledger};
 use txn_state::{Actor, TxnId};
 
-/// What a read of the key outside transactions answers at a timestamp.
+/// What a read of the key outside transactions answers at a timestamp. The buffer is one that serves the cursors of many reads.
 pub(crate) fn get(
+    buffer: &mut Vec<u8>,
     alloc: Global,
     store: &Store,
     key: &[u8],
@@ -39,11 +41,12 @@ pub(crate) fn get(
     requires { IsWellFormed (history_in store.now) store.now }
     ensures { AnswersGet result (history_in store.now) key.now (time_of ts) }
 {
-    get_from::<Brand>(alloc, store, key, ts, Blank::new(1))
+    get_from::<Brand>(buffer, alloc, store, key, ts, Blank::new(1))
 }
 
 /// The same, with the looks in a ledger of their own.
 fn get_from<L: Ledger>(
+    buffer: &mut Vec<u8>,
     alloc: Global,
     store: &Store,
     key: &[u8],
@@ -56,11 +59,14 @@ fn get_from<L: Ledger>(
     requires some { 0 < blank.parts }
     ensures { AnswersGet result (history_in store.now) key.now (time_of ts) }
 {
-    let mut cursor = MvccCursor::over(alloc, store)?;
+    let lent = mem::replace(buffer, Vec::new(alloc));
+    let mut cursor = MvccCursor::with_buffer(lent, store)?;
     let mut looks = Looks::<L>::new(blank);
     cursor.seek_exact(key, &mut looks);
     let request = outside(ts);
-    answer(alloc, key, decide(&mut cursor, &request, &mut looks).0)
+    let answered = answer(alloc, key, decide(&mut cursor, &request, &mut looks).0);
+    *buffer = cursor.into_buffer();
+    answered
 }
 
 /// A plain read outside transactions.

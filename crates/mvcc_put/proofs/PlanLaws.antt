@@ -1,14 +1,12 @@
 -- What a put is planned as.
-use Rattle.std.specs.Prelude.{◌≡◌, ℕ, ◌≤◌, ◌<◌, nat_lt, ◌==◌, Bool, true, false, List, [], ◌∷◌, length, take, Option, option_map, Result, Ok, Err}
+use Rattle.std.specs.Prelude.{◌≡◌, ℕ, ◌≤◌, ◌<◌, nat_lt, ◌==◌, Bool, true, false, List, [], ◌∷◌, length, take, Result, Ok, Err}
 use Rattle.std.proofs.Common.{zero, suc, refl, sym, ap, ap₂, subst, ◌∙◌, arith}
 use Rattle.std.proofs.lemmas.Bool.Decides.{nat_tests}
 use Rattle.std.proofs.lemmas.Bool.{lt-ltb, ltb-false, ltb-true}
 use Rattle.mvcc_key.specs.Limits.{max_key_length}
-use Rattle.mvcc_key.specs.Lists.{first}
-use Rattle.mvcc_key.specs.Order.{Timestamp, Key}
-use Rattle.mvcc_key.specs.Fragments.{stack_at}
+use Rattle.mvcc_key.specs.Order.{Key}
 use Rattle.mvcc_key.specs.History as history
-use Rattle.mvcc_key.specs.History.{History, versions_of}
+use Rattle.mvcc_key.specs.History.{History}
 use Rattle.mvcc_key.specs.Refusal.{KeyTooLong}
 use Rattle.mvcc_key.specs.views.SeenPoint.{points_of}
 use Rattle.mvcc_key.specs.declared.batch.Batch.{Batch}
@@ -30,14 +28,12 @@ use Rattle.write_rule.specs.declared.change.WriteAnswer.{WriteAnswer as CodeAnsw
 use Rattle.write_rule.specs.declared.fault.WriteFault.{WriteFault}
 use Rattle.write_rule.specs.declared.fault.WriteFault.TheVariants as fault
 use Rattle.run_block.specs.RunFormat.{Run}
-use Rattle.lsm_store.specs.Shown.{fragments_in}
-use Rattle.stat_core.specs.DeadSince.{VersionShape}
-use Rattle.stat_delta.specs.Shapes.{IntentShape, version_shape, intent_shape}
 use Rattle.intent_meta.specs.KeyHistory.{key_history}
 use Rattle.mvcc_cursor.specs.WellFormed.{IsWellFormed, history_in}
-use Rattle.mvcc_cursor.specs.Standing.{Standing, AtKey, standing_over, at_place, anew, told_at, told, committed_at, committed, stack_over, stack_here}
+use Rattle.mvcc_cursor.specs.Standing.{Standing, AtKey, standing_over, at_place, anew, told_at, told}
 use Rattle.mvcc_put.specs.PlannedPut.{IsPlannedPut, Answers}
-use Rattle.mvcc_put.specs.views.Top.{Top, top_in, written_for, change_on}
+use Rattle.key_top.specs.Top.{Top, top_in}
+use Rattle.mvcc_put.specs.views.Written.{written_for, change_by}
 use Rattle.mvcc_put.specs.views.Changed.{SetsShort, CountsOnTop}
 use Rattle.mvcc_put.proofs.OnTopLaws.{written-short, moment-is, change-is}
 
@@ -100,7 +96,7 @@ module _ (h : History) (last : ℕ) (key : Key) (w : WriteRequest) (planned : Ke
           ranges = ap (λ (b : Batch). b.ranges) batch;
           tombstones = (change_leaves_others key h is.after one).tombstones;
           moment = told.moment ∙ sym (moment-is last h key w c is.outcome by);
-          delta = λ f. told.delta f ∙ ap (λ t. change_on change.last t (written_for is.outcome) f) top_is ∙ change-is change.last h key valid f w c is.outcome;
+          delta = λ f. told.delta f ∙ ap (λ t. change_by change.last t (written_for is.outcome) f) top_is ∙ change-is change.last h key valid f w c is.outcome;
         };
       }
 
@@ -124,15 +120,12 @@ module _ (store : List Run) (key sought : Key) (s : Standing) (stands : StandsAt
   told-is = ap (λ k. key_history k (history_in store)) (sym same) ∙ sym (ap₂ (λ p (r : List Run). told_at p (history_in r)) stands.at_key stands.over)
 
   -- the top is that of the key in the history
-  pub top-is : IsWellFormed (history_in store) store → (intent : Option IntentShape) (newest : Option VersionShape) (stack : List Timestamp)
-      → intent ≡ option_map intent_shape (told s).intent → newest ≡ option_map version_shape (first (committed s)) → stack ≡ stack_here s
-      → record { key_length = length key; intent = intent; newest = newest; stack = stack } ≡ top_in (history_in store) key
-  top-is formed intent newest stack i n t =
-      let intents = i ∙ ap (λ k. option_map intent_shape k.intent) (sym told-is) in
-      let versions = n ∙ ap₂ (λ p (r : List Run). option_map version_shape (first (committed_at p (history_in r)))) stands.at_key stands.over
-      ∙ ap (λ k. option_map version_shape (first (versions_of k (history_in store)))) same in
-      let stacks = t ∙ ap₂ (λ p (r : List Run). stack_over p (fragments_in r)) stands.at_key stands.over ∙ ap (stack_at (fragments_in store)) same ∙ ap (λ fs. stack_at fs key) formed.fragments in
-      λ j. record { key_length = length key; intent = intents j; newest = versions j; stack = stacks j }
+  pub top-is : IsWellFormed (history_in store) store → (top : Top)
+      → ((k : Key) → s.at ≡ AtKey k → length key ≡ length k → IsWellFormed (history_in s.store) s.store → top ≡ top_in (history_in s.store) k)
+      → top ≡ top_in (history_in store) key
+  top-is formed top told_by =
+      let here : IsWellFormed (history_in s.store) s.store = subst (λ (r : List Run). IsWellFormed (history_in r) r) (sym stands.over) formed in
+      told_by sought stands.at_key (sym (ap length same)) here ∙ λ j. top_in (history_in (stands.over j)) (same j)
 
 -- ---- what is answered
 
@@ -144,5 +137,3 @@ answers-put r h last key w long short = by (nat_lt max_key_length (length key)) 
     by : (b : Bool) → nat_lt max_key_length (length key) ≡ b → Answers r h last key w
     by true is = subst (λ q. Answers q h last key w) (sym (long (ltb-true _ _ is))) (too_long h key w (ltb-true _ _ is))
     by false is = short (ltb-false _ _ is)
-
--- ---- looks

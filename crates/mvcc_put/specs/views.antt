@@ -1,3 +1,3 @@
 -- Words that only contracts of the code need: how they view its values, and what holds inside.
-pub mod Top
+pub mod Written
 pub mod Changed

@@ -2,14 +2,11 @@
 #![tactic(auto)]
 
 mod change;
-mod delta;
-mod here;
 mod plan;
 mod planned;
-mod top;
 mod written;
 
-pub use plan::plan_put;
+pub use plan::{plan_put, plan_put_with};
 pub use write_rule::WriteFault as PutFault;
 
 #[cfg(test)]

@@ -6,14 +6,15 @@ ghost use Rattle.intent_meta.specs.KeyHistory.{key_history};
 ghost use Rattle.intent_meta.specs.Valid.{IsValid};
 ghost use Rattle.write_rule.specs.views.Seen.{request_of};
 ghost use Rattle.stat_delta.specs.Moments.{IsStoredBy};
+ghost use Rattle.key_top.specs.Top.{top_in};
+ghost use Rattle.key_top.specs.views.Seen.{seen_top};
 ghost use Rattle.mvcc_put.specs.PlannedPut.{Answers};
-ghost use Rattle.mvcc_put.specs.views.Top.{seen_top, top_in};
 ghost use Rattle.mvcc_put.specs.views.Changed.{IsTopOf};
 
 use crate::PutFault;
 use crate::change::change_on_top;
-use crate::top::KeyTop;
 use intent_meta::KeyItems;
+use key_top::KeyTop;
 use stat_delta::Change;
 use std::alloc::Global;
 use write_rule::{WriteAnswer, WriteRequest, plan_write};

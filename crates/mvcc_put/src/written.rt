@@ -1,5 +1,6 @@
 //! What a write puts on top of its key, told by its points.
 ghost use Rattle.std.specs.Prelude.{◌≡◌, All, length};
+ghost use Rattle.std.specs.Option.{option_map};
 ghost use Rattle.mvcc_key.specs.Batches.{IsStorable};
 ghost use Rattle.mvcc_key.specs.Encoded.{IsName};
 ghost use Rattle.mvcc_key.specs.Order.{Key, Pair};
@@ -11,36 +12,27 @@ ghost use Rattle.stat_core.specs.views.Seen.{version_shape_of};
 ghost use Rattle.write_rule.specs.Outcome.{Outcome};
 ghost use Rattle.write_rule.specs.Planned.{points_for};
 ghost use Rattle.write_rule.specs.Write.{WriteAnswer, WriteRequest};
-ghost use Rattle.mvcc_put.specs.views.Top.{seen_written, written_for};
+ghost use Rattle.key_top.specs.views.Seen.{seen_front};
+ghost use Rattle.mvcc_put.specs.views.Written.{written_for};
 
-use crate::top::IntentShape;
+use key_top::{Front, IntentShape, version_shape};
 use mvcc_key::{PointOp, read_key};
-use mvcc_value::is_deletion_value;
 use stat_core::VersionShape;
 
-/// What a write puts on top of its key: nothing where it is a replay, a version, or an intent in the place of the one that was
-/// there.
-#[derive(Clone, Copy, Debug)]
-pub(crate) enum Written {
-    Nothing,
-    Version(VersionShape),
-    Intent(IntentShape),
-}
-
-/// What these points put: a version is one of them, and an intent its record, then its provisional version, and then what is
-/// cleared.
-pub(crate) fn written_by(points: &[PointOp]) -> Written
+/// What these points put in front of the key's newest committed version, and `None` where they are a replay: a version is one of
+/// them, and an intent its record, then its provisional version, and then what is cleared.
+pub(crate) fn written_by(points: &[PointOp]) -> Option<Front>
     requires { All IsStorable points.now }
     ensures { (h : History) (key : Key) (w : WriteRequest) (c : Changed WriteAnswer) (outcome : Outcome h key w c)
-        → points_of points.now ≡ points_for outcome → seen_written result ≡ written_for outcome }
+        → points_of points.now ≡ points_for outcome → option_map seen_front result ≡ written_for outcome }
 {
     match points {
-        [] => Written::Nothing,
-        [version] => Written::Version(shape_of_op(version)),
-        [record, provisional, ..] => Written::Intent(IntentShape {
+        [] => None,
+        [version] => Some(Front::Version(shape_of_op(version))),
+        [record, provisional, ..] => Some(Front::Intent(IntentShape {
             record_len: value_len(record),
             provisional: shape_of_op(provisional),
-        }),
+        })),
     }
 }
 
@@ -54,11 +46,7 @@ fn shape_of_op(op: &PointOp) -> VersionShape
         Some(value) => value.as_slice(),
         None => &[],
     };
-    VersionShape {
-        ts,
-        value_len: value.len() as u64,
-        deletion: is_deletion_value(value),
-    }
+    version_shape(ts, value)
 }
 
 /// How many bytes an operation sets.

@@ -1,4 +1,5 @@
 pub mod Read
+pub mod Scan
 pub mod Causes
 pub mod Laws
 pub mod views

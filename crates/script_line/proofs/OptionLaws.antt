@@ -2,9 +2,9 @@
 use Rattle.std.specs.Prelude.{◌≡◌, ℕ, Bool, true, false, List, [], ◌∷◌, ◌++◌, map, codes, Option, Some, None, option_map, string_bytes}
 use Rattle.std.specs.declared.string.String.{String}
 use Rattle.std.proofs.Common.{refl, sym, ap, ◌∙◌, append-nil, get_or, Global, Bor}
-use Rattle.script_line.specs.Words.{Word, are_only, has, read_or, value_of}
+use Rattle.script_words.specs.Words.{Word, are_only, has, read_or, value_of}
 use Rattle.script_line.specs.CommandLine.{given_options, max_count_max, options_of}
-use Rattle.script_line.specs.Forms.{number_in}
+use Rattle.script_words.specs.Forms.{number_in}
 
 -- words that are options of run, and the bound that they give
 pub options_of-read : (ws : List Word) (bound : Option ℕ) → are_only (codes "--count-max" ∷ []) (codes "--stats" ∷ []) ws ≡ true

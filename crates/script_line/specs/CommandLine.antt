@@ -1,7 +1,7 @@
 -- What the words of the command line say: run and its options.
 use Rattle.std.specs.Prelude.{ℕ, ◌-◌, ◌^◌, Bool, ◌||◌, List, [], ◌∷◌, codes, bytes_eq, Option, Some, None, is_some, option_map, if◌then◌else◌}
-use Rattle.script_line.specs.Forms.{◌>>=◌, number_in}
-use Rattle.script_line.specs.Words.{Word, word_of, is_named, only, has, optional}
+use Rattle.script_words.specs.Forms.{◌>>=◌, number_in}
+use Rattle.script_words.specs.Words.{Word, word_of, is_named, only, has, optional}
 
 -- an option that needs no further word: it has its value behind an equals sign, or is the flag
 abbrev pub stands_alone : List ℕ → Word → Bool

@@ -3,8 +3,8 @@ use Rattle.std.specs.Prelude.{ℕ, ℤ, pos, Bool, false, List, [], ◌∷◌, m
 use Rattle.mvcc_key.specs.Order.{Timestamp, no_time, Key}
 use Rattle.mvcc_key.specs.Limits.{max_count}
 use Rattle.mvcc_key.specs.History.{Body, Bytes, Int, SeqRange}
-use Rattle.script_line.specs.Forms.{◌>>=◌, name, text, integer, wall, time, number_from, number_to, ranges, id}
-use Rattle.script_line.specs.Words.{Word, words, word_of, only, required, optional, perhaps, one_of, up_to_one_of}
+use Rattle.script_words.specs.Forms.{◌>>=◌, name, text, integer, wall, time, number_from, number_to, ranges, id}
+use Rattle.script_words.specs.Words.{Word, words, word_of, only, required, optional, perhaps, one_of, up_to_one_of}
 
 -- who writes: no transaction, at a timestamp, or the transaction of a name
 pub data Who : Type 0 where

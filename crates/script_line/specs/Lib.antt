@@ -1,5 +1,3 @@
 pub mod CommandLine
-pub mod Forms
-pub mod Words
 pub mod Grammar
 pub mod views

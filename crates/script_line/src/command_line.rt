@@ -2,13 +2,13 @@
 ghost use Rattle.std.specs.Prelude.{◌≡◌, ◌<◌, ◌≤◌, ◌^◌, IfOk, IfSome, MatchOption, None, codes, length, map, string_bytes};
 ghost use Rattle.std.specs.Option.{option_map};
 ghost use Rattle.script_line.specs.CommandLine.{Run, given_options, option_and, invocation, max_count_max, options_of};
-ghost use Rattle.script_line.specs.Forms.{number_in};
-ghost use Rattle.script_line.specs.Words.{read_or};
-ghost use Rattle.script_line.specs.views.SeenLine.{word_of};
+ghost use Rattle.script_words.specs.Forms.{number_in};
+ghost use Rattle.script_words.specs.Words.{read_or};
+ghost use Rattle.script_words.specs.views.SeenWord.{word_of};
 
-use crate::forms::number_in;
-use crate::words::{Word, read_named};
 use mvcc_key::OutOfMemory;
+use script_words::forms::number_in;
+use script_words::{Word, read_named};
 use std::alloc::Global;
 use std::marker::Model;
 

@@ -1,15 +1,15 @@
 //! What a line of a script says: its command, and the words of each.
 ghost use Rattle.std.specs.Prelude.{◌≡◌, map};
 ghost use Rattle.script_line.specs.Grammar.{age, alone, begins_comment, command, compact, cput, del, get, increment, initput, parse, put};
-ghost use Rattle.script_line.specs.views.Reading.{Gives};
-ghost use Rattle.script_line.specs.views.SeenLine.{line_of, word_of};
+ghost use Rattle.script_words.specs.views.Reading.{Gives};
+ghost use Rattle.script_line.specs.views.SeenLine.{line_of};
+ghost use Rattle.script_words.specs.views.SeenWord.{word_of};
 
-use crate::fault::LineFault;
-use crate::forms::{moment, run_count, text, time};
 use crate::line::Line;
 use crate::options::{expected, optional_addend, required, value, who};
 use crate::txn_commands::txn_command;
-use crate::words::{Word, next_word, read_values, read_words};
+use script_words::forms::{moment, run_count, text, time};
+use script_words::{LineFault, Word, next_word, read_values, read_words};
 use std::alloc::Global;
 
 /// What the line says. The first word is the name of a command, each further one a flag or `name=value`, in any order and each at

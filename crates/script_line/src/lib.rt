@@ -2,19 +2,12 @@
 #![tactic(auto)]
 
 mod command_line;
-mod cutting;
-mod fault;
-mod forms;
 mod grammar;
 mod line;
 mod options;
 mod txn_commands;
-mod unescape;
-mod words;
 
 pub use command_line::{Options, read_command_line};
-pub use fault::LineFault;
-pub use forms::{RunCount, WallTime};
 pub use grammar::parse_line;
 pub use line::{Line, Value, Who};
 

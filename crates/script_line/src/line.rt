@@ -3,9 +3,9 @@ ghost use Rattle.std.specs.Prelude.{◌≡◌};
 ghost use Rattle.mvcc_value.specs.views.Seen.{plain_body};
 ghost use Rattle.script_line.specs.views.SeenLine.{body_of, is_blank, line_of};
 
-use crate::forms::{RunCount, WallTime};
 use mvcc_key::{SeqRange, Timestamp};
 use mvcc_value::PlainValue;
+use script_words::{RunCount, WallTime};
 use smallvec::SmallVec;
 use std::borrow::CowSlice;
 use txn_state::FEW_RANGES;

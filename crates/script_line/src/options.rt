@@ -4,16 +4,16 @@ ghost use Rattle.std.specs.Option.{option_map};
 ghost use Rattle.mvcc_key.specs.Limits.{max_count};
 ghost use Rattle.mvcc_key.specs.Order.{no_time};
 ghost use Rattle.mvcc_key.specs.views.Seen.{time_of};
-ghost use Rattle.script_line.specs.Forms.{id, integer, number_to, time};
+ghost use Rattle.script_words.specs.Forms.{id, integer, number_to, time};
 ghost use Rattle.script_line.specs.Grammar.{at_time, bytes_value, in_txn, int_value};
-ghost use Rattle.script_line.specs.Words.{read_one, read_or, read_perhaps, read_up_to_one};
-ghost use Rattle.script_line.specs.views.Reading.{Gives};
+ghost use Rattle.script_words.specs.Words.{read_one, read_or, read_perhaps, read_up_to_one};
+ghost use Rattle.script_words.specs.views.Reading.{Gives};
 ghost use Rattle.script_line.specs.views.SeenLine.{body_of, who_of};
 
-use crate::fault::LineFault;
-use crate::forms::{count, id, integer, name, text, time};
 use crate::line::{Value, Who};
 use mvcc_key::Timestamp;
+use script_words::LineFault;
+use script_words::forms::{count, id, integer, name, text, time};
 use std::alloc::Global;
 use uuid::Uuid;
 

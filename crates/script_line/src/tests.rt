@@ -1,6 +1,6 @@
 use super::*;
-use crate::forms::text;
 use mvcc_key::OutOfMemory;
+use script_words::LineFault;
 use std::alloc::Global;
 use std::test::Fail;
 
@@ -40,14 +40,6 @@ fn is_command(alloc: Global, line: &[u8]) -> bool {
     }
 }
 
-/// Whether the bytes are a text that writes these.
-fn writes(alloc: Global, written: &[u8], bytes: &[u8]) -> bool {
-    match text(alloc, written) {
-        Ok(read) => read.as_slice() == bytes,
-        Err(_) => false,
-    }
-}
-
 /// What the words of a command line that stand between spaces say.
 fn said(alloc: Global, line: &str) -> Result<Option<(bool, u64)>, OutOfMemory> {
     let mut words = Vec::new(alloc);
@@ -76,24 +68,6 @@ fn lines_are_read(rt: HostRuntime) {
     for line in " |\t \t|# put|\t#|".split('|') {
         let read = parse_line(rt.alloc(), line.as_bytes());
         assert!(rt; matches!(read, Ok(Line::Blank)), "{line:?}");
-    }
-}
-
-#[test]
-fn escapes_are_read(rt: HostRuntime) {
-    let cases: [(&[u8], &[u8]); 9] = [
-        (b"", b""),
-        (b"!~", b"!~"),
-        (b"\\\\", b"\\"),
-        (b"\\\\\\\\", b"\\\\"),
-        (b"\\x00\\x5c", b"\0\\"),
-        (b"\\xaf\\xFA\\xAf", b"\xaf\xfa\xaf"),
-        (b"\\x09\\x0a\\x20", b"\t\n "),
-        (b"a\\\\x41", b"a\\x41"),
-        (b"\\x41b\\x5cx41", b"Ab\\x41"),
-    ];
-    for (written, bytes) in cases {
-        assert!(rt; writes(rt.alloc(), written, bytes), "{written:?}");
     }
 }
 

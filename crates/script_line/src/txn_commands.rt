@@ -1,14 +1,14 @@
 //! The commands that change a transaction.
 ghost use Rattle.std.specs.Prelude.{◌≡◌, map};
 ghost use Rattle.script_line.specs.Grammar.{txn_advance, txn_begin, txn_command, txn_ignore_seqs, txn_refresh, txn_remove, txn_restart, txn_step};
-ghost use Rattle.script_line.specs.views.Reading.{Gives};
-ghost use Rattle.script_line.specs.views.SeenLine.{line_of, word_of};
+ghost use Rattle.script_words.specs.views.Reading.{Gives};
+ghost use Rattle.script_line.specs.views.SeenLine.{line_of};
+ghost use Rattle.script_words.specs.views.SeenWord.{word_of};
 
-use crate::fault::LineFault;
-use crate::forms::{name, ranges, time};
 use crate::line::Line;
 use crate::options::{optional_count, optional_id, optional_time, required};
-use crate::words::{Word, read_values};
+use script_words::forms::{name, ranges, time};
+use script_words::{LineFault, Word, read_values};
 use std::alloc::Global;
 
 /// The command of this name that changes a transaction, with these words.

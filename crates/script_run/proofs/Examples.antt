@@ -12,7 +12,7 @@ use Rattle.read_rule.specs.Read.{get, decide, listed}
 use Rattle.write_rule.specs.Write.{write, value_before}
 use Rattle.mvcc_engine.specs.Step.{statistics, step}
 use Rattle.script_line.proofs.Examples.{on_words}
-use Rattle.script_line.specs.Forms.{text}
+use Rattle.script_words.specs.Forms.{text}
 use Rattle.script_text.specs.Text.{escaped}
 use Rattle.script_text.proofs.Examples.{on_texts}
 use Rattle.script_run.specs.Output.{without_return, carry_out, output_from, lines, script_output, output, whole_part}

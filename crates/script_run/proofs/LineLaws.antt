@@ -4,7 +4,7 @@ use Rattle.std.proofs.Common.{refl, sym, ap, ◌∙◌, arith}
 use Rattle.mvcc_key.specs.Cutting.{pieces}
 use Rattle.mvcc_key.proofs.CuttingLaws.{pieces_some}
 use Rattle.script_run.specs.Output.{lines, without_empty_end, up_to_newline, whole_part, without_return}
-use Rattle.script_line.proofs.CutLaws.{pieces-cut, pieces-uncut}
+use Rattle.script_words.proofs.CutLaws.{pieces-cut, pieces-uncut}
 
 abbrev is_newline : ℕ → Bool
 is_newline b = b == 0x0a

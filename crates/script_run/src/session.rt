@@ -23,8 +23,9 @@ use crate::txns::Txns;
 use mvcc_engine::{Engine, PartShape};
 use mvcc_key::{Looks, OutOfMemory, Timestamp};
 use mvcc_value::PlainValue;
-use script_line::{Line, LineFault, Options, Value, Who, parse_line};
+use script_line::{Line, Options, Value, Who, parse_line};
 use script_text::{Answer, Reason, show};
+use script_words::LineFault;
 use std::alloc::Global;
 use std::marker::{Brand, Model};
 use std::sync::ledger::{Blank, Ledger};
@@ -359,7 +360,7 @@ impl Session {
     fn get(&mut self, key: &[u8], ts: Timestamp, text: &mut Vec<u8>) -> Result<(), CommandStop>
         ensures { Carries result (performed self.old (Get key.now (time_of ts))) self.old self.new text.old.items text.new.items }
     {
-        let found = self.engine.get_at(key, ts)?;
+        let found = self.engine.get_buffered(key, ts)?;
         show(self.alloc, &Answer::of_read(key, found.as_ref()), text)?;
         Ok(())
     }

@@ -5,19 +5,13 @@ use Rattle.std.specs.Cow.{cow_slice_items}
 use Rattle.mvcc_key.specs.History as history
 use Rattle.mvcc_key.specs.views.Seen.{time_of}
 use Rattle.txn_state.specs.views.Seen.{ranges_of}
-use Rattle.script_line.specs.Words as words
 use Rattle.script_line.specs.Grammar as grammar
-use Rattle.script_line.specs.declared.words.Word.{Word}
 use Rattle.script_line.specs.declared.line.Who.{Who}
 use Rattle.script_line.specs.declared.line.Who.TheVariants as writer
 use Rattle.script_line.specs.declared.line.Value.{Value}
 use Rattle.script_line.specs.declared.line.Value.TheVariants as value
 use Rattle.script_line.specs.declared.line.Line.{Line}
 use Rattle.script_line.specs.declared.line.Line.TheVariants as line
-
--- a word of a line
-abbrev pub word_of : Word → words.Word
-word_of w = record { name = w.name.now; value = option_map (λ v. v.now) w.value }
 
 -- who writes
 abbrev pub who_of : Who → grammar.Who

@@ -4,8 +4,9 @@ use Rattle.std.proofs.Common.{sym, subst}
 use Rattle.mvcc_key.specs.Limits.{max_key_length}
 use Rattle.write_rule.specs.views.Seen.{request_of}
 use Rattle.write_rule.specs.declared.fault.WriteFault.TheVariants as fault
-use Rattle.mvcc_put.specs.views.Top.{IsShortTop, seen_top}
-use Rattle.mvcc_put.proofs.OnTopLaws.{top-short}
+use Rattle.key_top.specs.Top.{IsShortTop}
+use Rattle.key_top.specs.views.Seen.{seen_top}
+use Rattle.key_top.proofs.TopLaws.{top-short}
 use Rattle.mvcc_put.proofs.PlanLaws.{not_above, sets-short, planned-put}
 use Rattle.mvcc_put.proofs.planned.planned_on.Goals as goal
 

@@ -2,7 +2,7 @@
 use Rattle.std.proofs.Common.{◌≡◌, ◌++◌, codes, length, map, option_map}
 use Rattle.std.specs.Prelude.{string_bytes}
 use Rattle.script_line.specs.CommandLine.{given_options}
-use Rattle.script_line.specs.views.SeenLine.{word_of}
+use Rattle.script_words.specs.views.SeenWord.{word_of}
 use Rattle.script_line.proofs.command_line.gather_options.Given as goal
 
 abbrev pub invariant-loop-rest : goal.invariant-loop-rest

@@ -1,9 +1,9 @@
 -- The options are those that are read by their names.
 use Rattle.std.proofs.Common.{◌∙◌, sym, ap, map, None, Some}
 use Rattle.script_line.specs.CommandLine.{max_count_max}
-use Rattle.script_line.specs.Forms.{number_in}
-use Rattle.script_line.specs.Words.{read_or}
-use Rattle.script_line.specs.views.SeenLine.{word_of}
+use Rattle.script_words.specs.Forms.{number_in}
+use Rattle.script_words.specs.Words.{read_or}
+use Rattle.script_words.specs.views.SeenWord.{word_of}
 use Rattle.script_line.proofs.OptionLaws.{options_of-read, first_value, first_flag}
 use Rattle.script_line.proofs.command_line.options_of.Goals as goal
 

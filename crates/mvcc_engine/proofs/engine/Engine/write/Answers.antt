@@ -1,5 +1,5 @@
 -- A write is carried out as it was planned.
-use Rattle.std.proofs.Common.{◌≤◌, ◌+◌, refl, ap, ◌∙◌, subst}
+use Rattle.std.proofs.Common.{◌≤◌, ◌+◌, ap, ◌∙◌, subst}
 use Rattle.std.proofs.lemmas.Result.{err_from_is_err_and}
 use Rattle.write_rule.specs.views.Seen.{request_of}
 use Rattle.mvcc_engine.specs.Looks.{looks_at}
@@ -11,15 +11,15 @@ pub returns-in_err-change-clause-answers : goal.returns-in_err-change-clause-ans
 returns-in_err-change-clause-answers g c =
     let p = err_from_is_err_and c.from_residual.result c.from_residual.ensures.1 in
     rw (p.1, p.2) (
-      refl,
+      c.self.view_is,
       plan-refused c.self.inside.store c.self.inside.stats c.self.invariant c.args.self.now c.self.view_is c.last_update_nanos-last.result c.last_update_nanos-last.ensures.value
           c.args.key.now (request_of c.args.request.now) c.in_err-change.field-0.0 c.in_err-change.ensures.outcome,
     )
 
 pub returns-in_err-change-clause-looks : goal.returns-in_err-change-clause-looks
 returns-in_err-change-clause-looks g c =
-    subst (λ n. c.plan_put.new.looks ≤ c.args.looks.now + n) (looks-told c.self.inside.store c.self.inside.stats c.self.invariant c.args.key.now ∙ ap (λ s. looks_at s c.args.key.now) c.self.view_is)
-    c.plan_put.ensures.looks
+    subst (λ n. c.plan_put_with.new.looks ≤ c.args.looks.now + n) (looks-told c.self.inside.store c.self.inside.stats c.self.invariant c.args.key.now ∙ ap (λ s. looks_at s c.args.key.now) c.self.view_is)
+    c.plan_put_with.ensures.looks
 
 pub settle-requires-clause-later : goal.settle-requires-clause-later
 settle-requires-clause-later g c =
@@ -35,20 +35,20 @@ pub returns-in_err-settle-clause-answers : goal.returns-in_err-settle-clause-ans
 returns-in_err-settle-clause-answers g c =
     let p = err_from_is_err_and c.from_residual-in_err-settle.result c.from_residual-in_err-settle.ensures.1 in
     rw (p.1, p.2) (
-      refl,
+      c.self.view_is,
       plan-over c.self.inside.store c.self.inside.stats c.self.invariant c.args.self.now c.self.view_is c.last_update_nanos-last.result c.last_update_nanos-last.ensures.value
           c.args.key.now (request_of c.args.request.now) c.in_ok-change.change c.in_ok-change.answer c.in_ok-change.ensures.outcome _ c.in_err-settle.ensures.refused,
     )
 
 pub returns-in_err-settle-clause-looks : goal.returns-in_err-settle-clause-looks
 returns-in_err-settle-clause-looks g c =
-    subst (λ n. c.plan_put.new.looks ≤ c.args.looks.now + n) (looks-told c.self.inside.store c.self.inside.stats c.self.invariant c.args.key.now ∙ ap (λ s. looks_at s c.args.key.now) c.self.view_is)
-    c.plan_put.ensures.looks
+    subst (λ n. c.plan_put_with.new.looks ≤ c.args.looks.now + n) (looks-told c.self.inside.store c.self.inside.stats c.self.invariant c.args.key.now ∙ ap (λ s. looks_at s c.args.key.now) c.self.view_is)
+    c.plan_put_with.ensures.looks
 
 pub returns-in_err-apply-clause-looks : goal.returns-in_err-apply-clause-looks
 returns-in_err-apply-clause-looks g c =
-    subst (λ n. c.plan_put.new.looks ≤ c.args.looks.now + n) (looks-told c.self.inside.store c.self.inside.stats c.self.invariant c.args.key.now ∙ ap (λ s. looks_at s c.args.key.now) c.self.view_is)
-    c.plan_put.ensures.looks
+    subst (λ n. c.plan_put_with.new.looks ≤ c.args.looks.now + n) (looks-told c.self.inside.store c.self.inside.stats c.self.invariant c.args.key.now ∙ ap (λ s. looks_at s c.args.key.now) c.self.view_is)
+    c.plan_put_with.ensures.looks
 
 pub invariant_of-self-2 : goal.invariant_of-self-2
 invariant_of-self-2 g c =
@@ -69,5 +69,5 @@ returns-clause-formed g c =
 
 pub returns-clause-looks : goal.returns-clause-looks
 returns-clause-looks g c =
-    subst (λ n. c.plan_put.new.looks ≤ c.args.looks.now + n) (looks-told c.self.inside.store c.self.inside.stats c.self.invariant c.args.key.now ∙ ap (λ s. looks_at s c.args.key.now) c.self.view_is)
-    c.plan_put.ensures.looks
+    subst (λ n. c.plan_put_with.new.looks ≤ c.args.looks.now + n) (looks-told c.self.inside.store c.self.inside.stats c.self.invariant c.args.key.now ∙ ap (λ s. looks_at s c.args.key.now) c.self.view_is)
+    c.plan_put_with.ensures.looks

@@ -1,0 +1,17 @@
+pub mod ListLaws
+pub mod PartLaws
+pub mod FormLaws
+pub mod ResolveLaws
+pub mod EachLaws
+pub mod RangeLaws
+pub mod SameLaws
+pub mod PairsLaws
+pub mod AlikeLaws
+pub mod PointLaws
+pub mod ChangeLaws
+pub mod RuleLaws
+pub mod EntryLaws
+pub mod LookLaws
+pub mod PlanLaws
+pub mod StoreLaws
+pub mod CauseLaws

@@ -1,0 +1,6 @@
+-- Words that only contracts of the code need: how they view its values, and what holds inside.
+pub mod Seen
+pub mod Own
+pub mod Left
+pub mod Front
+pub mod KeyPlan

@@ -1,0 +1,2 @@
+pub mod HereLaws
+pub mod TopLaws

@@ -1,0 +1,4 @@
+-- What each module of lemmas speaks of.
+pub mod LengthLaws
+pub mod KeptLaws
+pub mod GetLaws
