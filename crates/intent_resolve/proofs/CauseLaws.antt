@@ -102,7 +102,7 @@ refused_below u i ts higher =
 -- ---- one key
 
 -- a refused resolution of the key's intent is one of the intent
-intent_err : (u : Update) (h : History) (i : Intent) (why : Refusal) → resolve_found u h (Some i) ≡ Err why → resolution u.status u i ≡ Err why
+pub intent_err : (u : Update) (h : History) (i : Intent) (why : Refusal) → resolve_found u h (Some i) ≡ Err why → resolution u.status u i ≡ Err why
 unfolding resolve_intent
 intent_err u h i why e =
     let found : History → Changed Bool = λ after. record { history = after; answer = true } in

@@ -1,6 +1,7 @@
 pub mod ListLaws
 pub mod PartLaws
 pub mod FormLaws
+pub mod HiddenLaws
 pub mod ResolveLaws
 pub mod EachLaws
 pub mod RangeLaws
@@ -15,3 +16,10 @@ pub mod LookLaws
 pub mod PlanLaws
 pub mod StoreLaws
 pub mod CauseLaws
+pub mod GatherLaws
+pub mod GatherMomentLaws
+pub mod SpanPlanLaws
+mod AddLaws
+pub mod WalkLaws
+pub mod GatheringLaws
+pub mod EmptyLaws

@@ -148,6 +148,6 @@ fn new_shape(version: &NewVersion) -> VersionShape
 }
 
 /// A timestamp is in its range.
-fn fits_time(ts: Timestamp)
+pub(crate) fn fits_time(ts: Timestamp)
     ensures { IsTrue (is_in_range (time_of ts)) }
 {}

@@ -14,6 +14,7 @@ ghost use Rattle.key_top.specs.views.Groups.{AreShort, group_shape, record_lengt
 ghost use Rattle.key_top.specs.views.Seen.{intent_shape_of, seen_front, seen_top};
 
 use crate::top::{Front, IntentShape, KeyTop};
+use crate::version::version_delta;
 use mvcc_key::Timestamp;
 use stat_core::{Group, GroupRef, VersionShape};
 use stat_delta::key_delta;
@@ -35,6 +36,23 @@ pub fn moment_after(last: u64, front: Front) -> u64
 /// version of a key, in the place of its intent or of nothing (CockroachDB's `updateStatsOnPut`, `updateStatsOnResolve` and
 /// `updateStatsOnClear`, `pkg/storage`). Lengths are at most 2^25 bytes. It takes no memory.
 pub fn front_delta(top: &KeyTop<'_>, front: Front, now: u64) -> Group
+    requires top { IsShortTop (seen_top top.now) }
+    requires front { IsShortFront (seen_front front) }
+    ensures exact { (f : Field) → number f result ≡ front_change now (seen_top top.now) (seen_front front) f }
+    ensures within { (f : Field) → IsWithin 121 (number f result) }
+{
+    let key_len = top.key_len;
+    let stack = top.stack;
+    match (top.intent, front) {
+        (None, Front::Version(new)) if stack.is_empty() => version_delta(
+            key_len, top.newest, new, now,
+        ),
+        _ => general_delta(top, front, now),
+    }
+}
+
+/// The same for every top and front: the key is counted before and after.
+fn general_delta(top: &KeyTop<'_>, front: Front, now: u64) -> Group
     requires top { IsShortTop (seen_top top.now) }
     requires front { IsShortFront (seen_front front) }
     ensures exact { (f : Field) → number f result ≡ front_change now (seen_top top.now) (seen_front front) f }

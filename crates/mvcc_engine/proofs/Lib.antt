@@ -7,3 +7,5 @@ pub mod AnswerLaws
 pub mod LooksLaws
 pub mod WriteLaws
 pub mod ReadLaws
+pub mod TakingLaws
+pub mod ResolutionLaws

@@ -1,11 +1,12 @@
 -- One command: its answer, and the state after it.
-use Rattle.std.specs.Prelude.{ℕ, List, false, Option, Some, None, Result, Ok, Err, nat_lt}
+use Rattle.std.specs.Prelude.{ℕ, List, Bool, false, Option, Some, None, Result, Ok, Err, nat_lt}
 use Rattle.mvcc_key.specs.Steps.{◌>>=◌, unless_fault}
 use Rattle.mvcc_key.specs.Order.{Timestamp, no_time, Key}
 use Rattle.mvcc_key.specs.History.{History, Changed, empty_history}
 use Rattle.mvcc_key.specs.Fragments.{fragments}
 use Rattle.mvcc_key.specs.Field.{Field}
 use Rattle.mvcc_key.specs.Refusal.{Refusal, MomentTooEarly, CountOverflow}
+use Rattle.mvcc_key.specs.Spans.{Ranged}
 use Rattle.mvcc_value.specs.Found.{Found}
 use Rattle.intent_meta.specs.StoredPairs.{stored_pairs}
 use Rattle.stat_core.specs.ComputeStats.{Sums, compute_stats, overflowing}
@@ -14,6 +15,7 @@ use Rattle.lsm_store.specs.Parts.{Part, Stage, first_parts, after_batch, flushed
 use Rattle.txn_state.specs.Transaction.{At}
 use Rattle.read_rule.specs.Read.{ReadRequest, get}
 use Rattle.write_rule.specs.Write.{WriteRequest, WriteAnswer, write}
+use Rattle.intent_resolve.specs.Resolve.{Update, resolve, resolve_range}
 
 -- the history, the latest moment that was stored or aged to, the bound on each of the statistics, and what each part names
 pub record State : Type 0 where
@@ -29,6 +31,8 @@ first_state count_max = record { history = empty_history; last = 0; count_max = 
 -- what can be asked
 pub data Command : Type 0 where
   Write : (key : Key) (request : WriteRequest) → Command
+  Resolve : (key : Key) (update : Update) → Command
+  ResolveRange : (start end : Key) (update : Update) (max : Option ℕ) → Command
   Age : (now : ℕ) → Command
   Flush : Command
   Compact : (keep : ℕ) → Command
@@ -40,6 +44,8 @@ pub data Command : Type 0 where
 pub data Reply : Type 0 where
   Finished : Reply
   Wrote : (answer : WriteAnswer) → Reply
+  WasFound : (found : Bool) → Reply
+  Took : (ranged : Ranged) → Reply
   Got : (found : Option Found) → Reply
   Statistics : (sums : Sums) (now : ℕ) → Reply
   Parts : (shapes : List PartShape) → Reply
@@ -83,7 +89,7 @@ read_at ts = record {
   options = record { local_limit = no_time; inconsistent = false; fail_more_recent = false };
 }
 
--- the state after a write, or why it is refused: its moment is the latest of those that it had and of all that are stored
+-- the state after a command that changes the history, or why it is refused: its moment is the latest of those that it had and of all that are stored
 abbrev pub change : {A : Type 0} → State → (A → Reply) → Result (Changed A) Refusal → Result Stepped Refusal
 change s reply written = do
   c ← written
@@ -104,6 +110,8 @@ age_to s now = do
 -- the answer to a command and the state after it, or why it is refused; a refused command leaves the state
 unfoldable pub step : State → Command → Result Stepped Refusal
 step s (Write key request) = change s Wrote (write s.history key request)
+step s (Resolve key u) = change s WasFound (resolve s.history key u)
+step s (ResolveRange start end u max) = change s Took (resolve_range s.history start end u max)
 step s (Age now) = age_to s now
 step s Flush = Ok (record { state = record s { parts = flushed s.parts }; reply = Finished })
 step s (Compact keep) = Ok (record { state = record s { parts = compacted keep s.parts }; reply = Finished })

@@ -6,29 +6,36 @@
 //! put     a@7=y in t    a:t a@7=y a@3=z a@1=x intent_count=1, and a@3 is garbage since 7
 //! get_at  a@9           conflict with the intent of t
 //! get_at  a@4           a@3=z
+//! resolve t at 8        a@8=y a@3=z a@1=x     intent_count=0, and a@3 is garbage since 8
 //! ```
 ghost use Rattle.std.specs.Prelude.{◌≡◌, ◌≤◌, ◌<◌, ◌^◌, ◌+◌, map, IfOk};
 ghost use Rattle.std.specs.Option.{option_map};
+ghost use Rattle.mvcc_key.specs.History.{History};
 ghost use Rattle.mvcc_key.specs.views.Seen.{time_of};
 ghost use Rattle.mvcc_value.specs.views.Seen.{found_of, plain_body};
 ghost use Rattle.txn_state.specs.views.Seen.{actor_of};
 ghost use Rattle.write_rule.specs.Write as rule;
 ghost use Rattle.write_rule.specs.Write.{Done, Number, WasThere};
 ghost use Rattle.write_rule.specs.views.Seen.{answer_of, request_of};
+ghost use Rattle.stat_delta.specs.PointChange.{IsPointChange};
+ghost use Rattle.intent_resolve.specs.views.Seen.{ranged_of, update_of};
 ghost use Rattle.lsm_store.specs.Parts.{layout};
 ghost use Rattle.lsm_store.specs.views.Seen.{seen_shape};
-ghost use Rattle.mvcc_engine.specs.Step.{Age, Compact, Finished, Flush, Get, Got, Write, Wrote, first_state, statistics, step};
+ghost use Rattle.mvcc_engine.specs.Step.{Age, Compact, Finished, Flush, Get, Got, Reply, Resolve, ResolveRange, Took, WasFound, Write, Wrote, first_state, statistics, step};
 ghost use Rattle.mvcc_engine.specs.Looks.{looks_at};
+ghost use Rattle.mvcc_engine.specs.views.Taking.{IsPlanned, changed_to};
 ghost use Rattle.mvcc_engine.specs.views.Seen.{Answers, AnswersAge, AnswersRead, AnswersUnlessFull, IsAnswerTo};
 
 use crate::answer::{number_in, was_there};
 use crate::reading::get;
 use crate::refusal::{AgeFault, Refusal};
+use intent_resolve::{Ranged, Update, plan_resolve, plan_resolve_range};
 use lsm_store::{PartShape, Store};
 use mvcc_key::{Looks, OutOfMemory, Timestamp};
 use mvcc_put::plan_put_with;
 use mvcc_value::{Found, PlainValue};
 use stat_core::Stats;
+use stat_delta::Change;
 use std::alloc::Global;
 use std::marker::Model;
 use std::sync::ledger::Ledger;
@@ -172,6 +179,51 @@ impl Engine {
         Ok(number_in(answer))
     }
 
+    /// Resolves the key's intent, if it is of the update's transaction, and answers whether it is (CockroachDB
+    /// `MVCCResolveWriteIntent`). By [`intent_resolve::plan_resolve`] the intent goes, moves, or becomes a version. It is refused
+    /// with [`Refusal::CommitBelowIntent`] or, behind that, with [`Refusal::CountOverflow`].
+    pub fn resolve<L: Ledger>(
+        &mut self,
+        key: &[u8],
+        update: &Update,
+        looks: &mut Looks<L>,
+    ) -> Result<bool, Refusal>
+        ensures answers { Answers result (λ found. WasFound found) self.old self.new (step self.old (Resolve key.now (update_of update.now))) }
+        ensures looks { looks.new ≤ looks.old + looks_at self.old key.now }
+    {
+        let last = self.stats.last_update_nanos();
+        let (change, found) = plan_resolve(self.alloc, &self.store, last, key, update, looks)?;
+        self.take(change)?;
+        Ok(found)
+    }
+
+    /// Resolves the intents that the update's transaction has in a span, in the order of their keys and at most `max` of them, and
+    /// answers how many, and what is left of the span from the next one on (CockroachDB `MVCCResolveWriteIntentRange`). Each is
+    /// resolved as by [`Engine::resolve`], and where one is refused nothing changes. It is refused with the first of these that
+    /// applies, in this order: [`Refusal::BadSpan`], [`Refusal::CommitBelowIntent`], [`Refusal::CountOverflow`].
+    pub fn resolve_range(
+        &mut self,
+        start: &[u8],
+        end: &[u8],
+        update: &Update,
+        max: Option<u64>,
+    ) -> Result<Ranged, Refusal>
+        ensures { Answers result (λ ranged. Took (ranged_of ranged)) self.old self.new (step self.old (ResolveRange start.now end.now (update_of update.now) max)) }
+    {
+        let last = self.stats.last_update_nanos();
+        let (change, ranged) = plan_resolve_range(
+            self.alloc,
+            &self.store,
+            last,
+            start,
+            end,
+            update,
+            max,
+        )?;
+        self.take(change)?;
+        Ok(ranged)
+    }
+
     /// The newest version of the key that is not newer than the timestamp, where it is no deletion and no tombstone is above it
     /// (CockroachDB `MVCCGet` outside of a transaction). It is refused with [`Refusal::Conflict`] where the key has an intent at or
     /// below the timestamp.
@@ -260,5 +312,18 @@ impl Engine {
         self.store.apply(change.batch)?;
         self.stats = stats;
         Ok(answer)
+    }
+
+    /// Takes a planned change up, with the statistics after it. Memory is taken before the first change.
+    fn take(&mut self, planned: Change) -> Result<(), Refusal>
+        requires { IsPlanned self.old planned }
+        ensures { (after : History) (reply : Reply) → IsPointChange self.old.last self.old.history after planned
+            → Answers result (λ done. reply) self.old self.new (changed_to self.old after reply) }
+    {
+        let mut settled = self.stats;
+        settled.settle(&planned.delta, planned.last)?;
+        self.store.apply(planned.batch)?;
+        self.stats = settled;
+        Ok(())
     }
 }

@@ -2,6 +2,7 @@
 ghost use Rattle.std.specs.Prelude.{◌≡◌};
 
 use intent_meta::IntentSeen;
+use intent_resolve::ResolveFault;
 use mvcc_key::{Elements, OutOfMemory, Timestamp};
 use mvcc_put::PutFault;
 use mvcc_value::OwnedValue;
@@ -20,6 +21,8 @@ pub enum Refusal {
     ValueTooLong(u64),
     /// The timestamp is [`Timestamp::NONE`].
     BadTimestamp,
+    /// The bounds are no span, or one of them is longer than 4,097 bytes.
+    BadSpan,
     /// Another's intent is in the way (CockroachDB `WriteIntentError`): this one.
     Conflict(Elements<IntentSeen>),
     /// The transaction's own intent is of a later epoch: its own epoch, and the intent's.
@@ -40,6 +43,9 @@ pub enum Refusal {
     IntegerOverflow(i64, i64),
     /// The record of the new intent is longer than 16,777,216 bytes: its length.
     IntentTooLong(u64),
+    /// A commit is below the timestamp of the transaction's intent, which this is: of a span, of the first such intent that is
+    /// handled.
+    CommitBelowIntent(Timestamp),
     /// The moment is before the latest one, which is this, in nanoseconds of wall time.
     MomentTooEarly(u64),
     /// This statistic would pass the bound, and those before it would not.
@@ -88,6 +94,21 @@ impl From<PutFault> for Refusal {
             PutFault::NotInteger(actual) => Refusal::NotInteger(actual),
             PutFault::IntegerOverflow(old, by) => Refusal::IntegerOverflow(old, by),
             PutFault::IntentTooLong(len) => Refusal::IntentTooLong(len),
+        }
+    }
+}
+
+impl From<ResolveFault> for Refusal {
+    ghost use Rattle.std.specs.Prelude.{◌≡◌};
+    ghost use Rattle.mvcc_engine.specs.views.Seen.{as_resolve_refusal};
+
+    ghost from_gives = { λ fault e. e ≡ as_resolve_refusal fault };
+
+    fn from(fault: ResolveFault) -> Self {
+        match fault {
+            ResolveFault::OutOfMemory => Refusal::OutOfMemory,
+            ResolveFault::BadSpan => Refusal::BadSpan,
+            ResolveFault::CommitBelowIntent(ts) => Refusal::CommitBelowIntent(ts),
         }
     }
 }

@@ -2,7 +2,8 @@
 ghost use Rattle.std.specs.Prelude.{◌≡◌, ◌<◌};
 
 use super::*;
-use mvcc_key::{Looks, OutOfMemory, Timestamp};
+use intent_resolve::{Ranged, TxnStatus, Update};
+use mvcc_key::{Elements, Looks, OutOfMemory, SeqRange, Timestamp};
 use mvcc_value::{Found, OwnedValue, PlainValue};
 use stat_core::{Field, Stats};
 use std::alloc::Global;
@@ -15,6 +16,7 @@ use uuid::Uuid;
 mod conditions;
 mod keys;
 mod parts;
+mod resolutions;
 mod times;
 mod txns;
 
@@ -50,10 +52,23 @@ enum Write<'a> {
     Increment(i64),
 }
 
-/// A call: a write of a key, a read of one at a wall time, or another.
+/// What is known of a transaction: the number that its id is, its epoch, its status, a wall time, and the first and the last of
+/// the sequences that it ignores.
+#[derive(Clone, Copy)]
+struct Known {
+    id: u128,
+    epoch: u32,
+    status: TxnStatus,
+    wall: u64,
+    ignored: Option<(u32, u32)>,
+}
+
+/// A call: a write of a key, a resolution of one, or of at most so many of a span, a read of a key at a wall time, or another.
 #[derive(Clone, Copy)]
 enum Call<'a> {
     Write(Writer, &'a [u8], Write<'a>),
+    Resolve(&'a [u8], Known),
+    ResolveRange(&'a [u8], &'a [u8], Known, Option<u64>),
     Get(&'a [u8], u64),
     Age(u64),
     Flush,
@@ -66,16 +81,21 @@ enum Outcome {
     Done,
     WasThere(bool),
     Number(i64),
+    Resolved(bool),
+    Took(Ranged),
     Got(Option<Found>),
     Refused(Refusal),
 }
 
-/// What a call is to answer; a value that is found with its wall time.
+/// What a call is to answer; a value that is found with its wall time, and intents that were taken with the start of what is left
+/// of the span up to `z`.
 #[derive(Clone, Copy)]
 enum Answer {
     Done,
     WasThere(bool),
     Number(i64),
+    Resolved(bool),
+    Took(u64, Option<&'static [u8]>),
     Nothing,
     Shown(PlainValue<'static>, u64),
     Refused(Why),
@@ -88,6 +108,7 @@ enum Why {
     KeyOf(u64),
     ValueOf(u64),
     NoTime,
+    NoSpan,
     Conflict(u128, u64),
     Missing(u32),
     Mismatch(Option<PlainValue<'static>>),
@@ -95,6 +116,7 @@ enum Why {
     Condition(Option<PlainValue<'static>>),
     NotInteger(PlainValue<'static>),
     Overflow(i64, i64),
+    Below(u64),
     TooEarly(u64),
     Count(Field),
 }
@@ -161,6 +183,47 @@ fn write_by<L: Ledger>(
     }
 }
 
+/// What an update says that knows this.
+fn update(alloc: Global, known: Known) -> Result<Update, OutOfMemory> {
+    let mut ignored = Elements::new(alloc);
+    if let Some((first, last)) = known.ignored {
+        ignored.push(SeqRange { first, last })?;
+    }
+    Ok(Update {
+        id: Uuid::from_u128(known.id),
+        epoch: known.epoch,
+        status: known.status,
+        ts: at(known.wall),
+        ignored,
+    })
+}
+
+fn resolve<L: Ledger>(
+    alloc: Global,
+    engine: &mut Engine,
+    key: &[u8],
+    known: Known,
+    looks: &mut Looks<L>,
+) -> Result<Outcome, Fail> {
+    match engine.resolve(key, &update(alloc, known)?, looks) {
+        Ok(found) => Ok(Outcome::Resolved(found)),
+        Err(why) => Ok(Outcome::Refused(why)),
+    }
+}
+
+fn resolve_range(
+    alloc: Global,
+    engine: &mut Engine,
+    span: (&[u8], &[u8]),
+    known: Known,
+    max: Option<u64>,
+) -> Result<Outcome, Fail> {
+    match engine.resolve_range(span.0, span.1, &update(alloc, known)?, max) {
+        Ok(ranged) => Ok(Outcome::Took(ranged)),
+        Err(why) => Ok(Outcome::Refused(why)),
+    }
+}
+
 fn age(engine: &mut Engine, now: u64) -> Result<(), Refusal> {
     if now <= LARGEST {
         engine.age(now)?;
@@ -186,6 +249,10 @@ fn make<L: Ledger>(
 ) -> Result<Outcome, Fail> {
     match call {
         Call::Write(who, key, kind) => write_by(alloc, engine, who, key, kind, looks),
+        Call::Resolve(key, known) => resolve(alloc, engine, key, known, looks),
+        Call::ResolveRange(start, end, known, max) => {
+            resolve_range(alloc, engine, (start, end), known, max)
+        }
         Call::Get(key, wall) => match engine.get_at(key, at(wall)) {
             Ok(found) => Ok(Outcome::Got(found)),
             Err(why) => Ok(Outcome::Refused(why)),
@@ -211,6 +278,7 @@ fn is_why(refusal: &Refusal, want: Why) -> bool {
         (Refusal::KeyTooLong(length), Why::KeyOf(want)) => *length == want,
         (Refusal::ValueTooLong(length), Why::ValueOf(want)) => *length == want,
         (Refusal::BadTimestamp, Why::NoTime) => true,
+        (Refusal::BadSpan, Why::NoSpan) => true,
         (Refusal::Conflict(intents), Why::Conflict(id, wall)) => match intents.as_slice() {
             [intent] => intent.id == Uuid::from_u128(id) && intent.ts == at(wall),
             _ => false,
@@ -223,10 +291,22 @@ fn is_why(refusal: &Refusal, want: Why) -> bool {
         (Refusal::IntegerOverflow(old, by), Why::Overflow(number, added)) => {
             *old == number && *by == added
         }
+        (Refusal::CommitBelowIntent(ts), Why::Below(wall)) => *ts == at(wall),
         (Refusal::MomentTooEarly(latest), Why::TooEarly(want)) => *latest == want,
         (Refusal::CountOverflow(field), Why::Count(want)) => *field == want,
         _ => false,
     }
+}
+
+/// Whether so many intents were taken, and the rest of the span up to `z` begins here.
+fn is_taken(ranged: &Ranged, count: u64, rest: Option<&[u8]>) -> bool {
+    let is_rest = match (&ranged.resume, rest) {
+        (Some(span), Some(start)) => span.start.bytes() == start
+            && span.end.bytes() == b"z".as_slice(),
+        (None, None) => true,
+        _ => false,
+    };
+    ranged.count == count && is_rest
 }
 
 fn is_answer(outcome: &Outcome, want: Answer) -> bool {
@@ -234,6 +314,8 @@ fn is_answer(outcome: &Outcome, want: Answer) -> bool {
         (Outcome::Done, Answer::Done) => true,
         (Outcome::WasThere(there), Answer::WasThere(want)) => *there == want,
         (Outcome::Number(number), Answer::Number(want)) => *number == want,
+        (Outcome::Resolved(found), Answer::Resolved(want)) => *found == want,
+        (Outcome::Took(ranged), Answer::Took(count, rest)) => is_taken(ranged, count, rest),
         (Outcome::Got(None), Answer::Nothing) => true,
         (Outcome::Got(Some(found)), Answer::Shown(value, wall)) => {
             found.value.as_plain() == value && found.ts == at(wall)

@@ -1,3 +1,5 @@
 pub mod PlannedPut
 pub mod WriteLooks
+pub mod DeleteRange
+pub mod PlannedDeletes
 pub mod views

@@ -7,8 +7,7 @@ ghost use Rattle.mvcc_put.specs.PlannedPut.{Answers};
 ghost use Rattle.mvcc_put.specs.WriteLooks.{write_looks};
 
 use crate::PutFault;
-use crate::planned::planned_on;
-use key_top::{newest_here, top_here};
+use crate::planned::planned_at;
 use lsm_store::Store;
 use mvcc_cursor::MvccCursor;
 use mvcc_key::Looks;
@@ -72,10 +71,7 @@ pub fn plan_put_with<L: Ledger>(
 {
     let lent = mem::replace(buffer, Vec::new(alloc));
     let mut cursor = MvccCursor::with_buffer(lent, store)?;
-    cursor.seek_exact(key, looks);
-    let newest = newest_here(&mut cursor, looks);
-    let top = top_here(&cursor, key.len() as u64, newest);
-    let planned = planned_on(alloc, last, key, &cursor, &top, request);
+    let planned = planned_at(alloc, last, key, &mut cursor, request, looks);
     *buffer = cursor.into_buffer();
     planned
 }

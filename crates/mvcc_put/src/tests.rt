@@ -4,7 +4,7 @@ ghost use Rattle.lsm_store.specs.Shown.{first_runs};
 
 use super::*;
 use lsm_store::Store;
-use mvcc_key::{Looks, PointOp, Timestamp, decode_key};
+use mvcc_key::{Key, Looks, OutOfMemory, PointOp, Timestamp, decode_key, is_bad_span};
 use mvcc_value::PlainValue;
 use stat_core::Group;
 use stat_delta::Change;
@@ -199,6 +199,75 @@ fn refusals_over_an_empty_store(rt: HostRuntime) -> Result<(), Fail> {
             comes_to::<Brand>(rt.alloc(), &store, given, want, Blank::new(1)),
             "{wall}"
         );
+    }
+    Ok(())
+}
+
+/// What the deletes of two keys come to: how many tombstones are set, by how much the statistics change, and at which wall time.
+#[derive(Clone, Copy, PartialEq, Eq, Debug)]
+enum Deleted {
+    Sets(usize, Group, u64),
+    Empty,
+    NoTime,
+    Other,
+}
+
+/// The deletes of two keys where nothing is stored, after a last moment, at a wall time.
+fn deletes(
+    alloc: Global,
+    store: &Store,
+    last: u64,
+    wall: u64,
+    keys: (&[u8], &[u8]),
+) -> Result<Deleted, OutOfMemory>
+    requires empty { store.now ≡ first_runs }
+{
+    let (lower, higher) = keys;
+    if is_bad_span(lower, higher) {
+        return Ok(Deleted::Other);
+    }
+    let first = Key::copy(alloc, lower)?;
+    let second = Key::copy(alloc, higher)?;
+    let keys = [first, second];
+    let who = Actor::At(at(wall));
+    let last = at(last).wall();
+    match plan_deletes(alloc, store, last, who, &keys, Timestamp::NONE) {
+        Ok(change) => Ok(Deleted::Sets(
+            change.batch.points.as_slice().len(),
+            change.delta,
+            change.last,
+        )),
+        Err(PutFault::EmptyKey) => Ok(Deleted::Empty),
+        Err(PutFault::BadTimestamp) => Ok(Deleted::NoTime),
+        Err(_) => Ok(Deleted::Other),
+    }
+}
+
+/// Two keys are deleted in one change at one moment, and one that is refused refuses both.
+#[test]
+fn deletes_over_an_empty_store(rt: HostRuntime) -> Result<(), Fail> {
+    let two = Group {
+        key_count: 2,
+        key_bytes: 28,
+        val_count: 2,
+        ..Group::zero()
+    };
+    let aged = Group {
+        gc_bytes_age: 364,
+        ..two
+    };
+    let keys = (&b"k"[..], &b"l"[..]);
+    let from_empty = (&b""[..], &b"l"[..]);
+    let rows = [
+        (0, SEVENTH, keys, Deleted::Sets(2, two, SEVENTH)),
+        (TWENTIETH, SEVENTH, keys, Deleted::Sets(2, aged, TWENTIETH)),
+        (0, SEVENTH, from_empty, Deleted::Empty),
+        (0, 0, keys, Deleted::NoTime),
+    ];
+    for (last, wall, keys, want) in rows {
+        let store = Store::new(rt.alloc());
+        let deleted = deletes(rt.alloc(), &store, last, wall, keys)?;
+        assert_eq!(rt; deleted, want, "{last} {wall}");
     }
     Ok(())
 }

@@ -40,7 +40,7 @@ items-rekeyed a b None None None = refl
 items-rekeyed a b None None (Some i) = row-rekeyed a b i.body i.ts _
 
 -- items are no intent in the way
-no_conflict : (key : Key) (m u n : Option Item) (s : List IntentSeen) → past_more_recent m (past_uncertain u (item_row key n)) ≡ Err (Conflict s) → ⊥
+pub no_conflict : (key : Key) (m u n : Option Item) (s : List IntentSeen) → past_more_recent m (past_uncertain u (item_row key n)) ≡ Err (Conflict s) → ⊥
 no_conflict key (Some i) u n s e = absurd cc
 no_conflict key None (Some i) n s e = absurd cc
 no_conflict key None None None s e = absurd cc

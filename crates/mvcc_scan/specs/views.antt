@@ -1,3 +1,6 @@
 -- Words that only contracts of the code need: how they view its values, and what holds inside.
 pub mod Seen
 pub mod Kept
+pub mod Taking
+pub mod Walking
+pub mod Ascending

@@ -20,6 +20,7 @@ use mvcc_value::Found;
 use read_rule::{ReadOptions, ReadRequest};
 use std::alloc::Global;
 use std::marker::Brand;
+use std::mem;
 use std::sync::ledger::{Blank, Ledger};
 use txn_state::Actor;
 
@@ -38,11 +39,27 @@ pub fn plan_get(
     requires { IsWellFormed (history_in store.now) store.now }
     ensures { AnswersGet result (read.get (history_in store.now) (asked who.entry options) key.now) }
 {
+    plan_get_with(&mut Vec::new(alloc), alloc, store, who, key, options)
+}
+
+/// The same, with a buffer that is kept from one read to the next: once it has grown to the 4,111 bytes that a cursor needs, no
+/// later read takes memory for it. What it holds says nothing.
+pub fn plan_get_with(
+    buffer: &mut Vec<u8>,
+    alloc: Global,
+    store: &Store,
+    who: Actor<'_>,
+    key: &[u8],
+    options: ReadOptions,
+) -> Result<GetAnswer, ScanFault>
+    requires { IsWellFormed (history_in store.now) store.now }
+    ensures { AnswersGet result (read.get (history_in store.now) (asked who.entry options) key.now) }
+{
     let request = ReadRequest { who, options };
     if has_bad_options(&request) {
         return Err(ScanFault::BadOptions);
     }
-    get_from::<Brand>(alloc, store, key, &request, Blank::new(1))
+    get_from::<Brand>(buffer, alloc, store, key, &request, Blank::new(1))
 }
 
 /// Whether an inconsistent read is in a transaction, or fails on more recent items.
@@ -55,6 +72,7 @@ pub(crate) fn has_bad_options(request: &ReadRequest<'_>) -> bool
 
 /// The read with good options, its looks in a ledger of their own.
 fn get_from<L: Ledger>(
+    buffer: &mut Vec<u8>,
     alloc: Global,
     store: &Store,
     key: &[u8],
@@ -68,10 +86,12 @@ fn get_from<L: Ledger>(
     requires some { 0 < blank.parts }
     ensures { AnswersGet result (read.get (history_in store.now) (request_of request.now) key.now) }
 {
-    let mut cursor = MvccCursor::over(alloc, store)?;
+    let lent = mem::replace(buffer, Vec::new(alloc));
+    let mut cursor = MvccCursor::with_buffer(lent, store)?;
     let mut looks = Looks::<L>::new(blank);
     cursor.seek_exact(key, &mut looks);
     let looked = look(alloc, &mut cursor, request, &mut looks)?;
+    *buffer = cursor.into_buffer();
     answer(alloc, key, looked)
 }
 

@@ -8,11 +8,15 @@ mod kept;
 mod limits;
 mod look;
 mod met;
+mod scan;
+mod taken;
+mod walk;
 
 pub use answer::{GetAnswer, ScanAnswer};
 pub use fault::ScanFault;
-pub use get::plan_get;
+pub use get::{plan_get, plan_get_with};
 pub use limits::ScanLimits;
+pub use scan::plan_scan;
 
 #[cfg(test)]
 mod tests;

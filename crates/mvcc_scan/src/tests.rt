@@ -57,3 +57,62 @@ fn an_empty_store_has_no_data(rt: HostRuntime) -> Result<(), Fail> {
     }
     Ok(())
 }
+
+/// What a scan of the span answers of a store that holds nothing.
+fn scanned(
+    alloc: Global,
+    store: &Store,
+    who: Actor<'_>,
+    span: (&[u8], &[u8]),
+    options: ReadOptions,
+    limits: ScanLimits,
+) -> &'static str
+    requires { store.now ≡ first_runs }
+{
+    match plan_scan(alloc, store, who, span.0, span.1, options, limits) {
+        Ok(answer) => {
+            if answer.rows.is_empty() && answer.intents.is_empty() && answer.resume.is_none() {
+                "nothing"
+            } else {
+                "something"
+            }
+        }
+        Err(ScanFault::BadOptions) => "bad options",
+        Err(ScanFault::BadSpan) => "bad span",
+        Err(_) => "another fault",
+    }
+}
+
+/// Spans have no rows and leave nothing, whatever the limits; the options are judged first, and then the span.
+#[test]
+fn an_empty_store_has_no_rows(rt: HostRuntime) -> Result<(), Fail> {
+    let rows = [
+        (&b"a"[..], &b"z"[..], false, None, "nothing"),
+        (&b"a"[..], &b"z"[..], false, Some(0), "nothing"),
+        (&b""[..], &[0x6b; 4097][..], false, Some(1), "nothing"),
+        (&b""[..], &[0x6b; 4098][..], false, None, "bad span"),
+        (&b"z"[..], &b"a"[..], false, None, "bad span"),
+        (&b"a"[..], &b"a"[..], false, None, "bad span"),
+        (&b"z"[..], &b"a"[..], true, None, "bad options"),
+    ];
+    for (start, end, is_bad, max, answer) in rows {
+        for reverse in [false, true] {
+            let store = Store::new(rt.alloc());
+            let options = ReadOptions {
+                local_limit: at(3),
+                inconsistent: is_bad,
+                fail_more_recent: is_bad,
+            };
+            let limits = ScanLimits {
+                reverse,
+                max,
+                target: 20,
+                allow_empty: true,
+            };
+            let who = Actor::At(at(5));
+            let found = scanned(rt.alloc(), &store, who, (start, end), options, limits);
+            assert!(rt; found == answer);
+        }
+    }
+    Ok(())
+}

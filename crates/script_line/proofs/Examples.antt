@@ -5,12 +5,12 @@ use Rattle.mvcc_key.specs.Order.{Timestamp, no_time}
 use Rattle.mvcc_key.specs.History.{Bytes, Int}
 use Rattle.script_words.proofs.Examples.{on_forms}
 use Rattle.script_line.specs.Grammar as grammar
-use Rattle.script_line.specs.Grammar.{Who, AtTime, InTxn, Blank, TxnBegin, TxnStep, TxnAdvance, TxnRestart, TxnRefresh, TxnIgnoreSeqs, TxnRemove, Put, Del, ConditionalPut, InitPut, Increment, Get, Age, Stats, Flush, Compact, Layout, command, txn_command, parse_words, parse}
+use Rattle.script_line.specs.Grammar.{Who, AtTime, InTxn, Committed, Aborted, Pending, Blank, TxnBegin, TxnStep, TxnAdvance, TxnRestart, TxnRefresh, TxnIgnoreSeqs, TxnRemove, Put, Del, ConditionalPut, InitPut, Increment, Resolve, ResolveRange, Get, Age, Stats, Flush, Compact, Layout, command, txn_command, parse_words, parse}
 use Rattle.script_line.specs.CommandLine.{Invocation, Run, invocation, given_options, options_of, run_options}
 
 -- what an example unfolds
 unfoldable pub on_words : ⊤
-unfolding on_forms grammar.txn_begin grammar.txn_step grammar.txn_advance grammar.txn_restart grammar.txn_refresh grammar.txn_ignore_seqs grammar.txn_remove grammar.put grammar.del grammar.cput grammar.initput grammar.increment grammar.get grammar.age grammar.alone grammar.compact txn_command command parse_words parse invocation given_options options_of run_options
+unfolding on_forms grammar.txn_begin grammar.txn_step grammar.txn_advance grammar.txn_restart grammar.txn_refresh grammar.txn_ignore_seqs grammar.txn_remove grammar.put grammar.del grammar.cput grammar.initput grammar.increment grammar.status_of grammar.resolve grammar.resolve_range grammar.get grammar.age grammar.alone grammar.compact txn_command command parse_words parse invocation given_options options_of run_options
 on_words = tt
 
 -- what is written at a second
@@ -21,7 +21,7 @@ abbrev at_one : Who
 at_one = AtTime one_second
 
 -- words: spaces and tabs part them, and nothing else
-parted : parse (codes " \t put\t k=a  v=abc\t\tts=1 \t") ≡ Some (Put (codes "a") (Bytes (codes "abc")) at_one)
+parted : parse (codes " \t put\t k=a  v=abc\t\tts=1 \t") ≡ Some (Put (codes "a") (Bytes (codes "abc")) at_one no_time)
 unfolding on_words
 parted = refl
 
@@ -30,17 +30,17 @@ unfolding on_words
 blank_lines = refl
 
 -- a word is cut at its first equals sign, and its value may be empty
-first_equals_sign : parse (codes "put k==b=c ts=1 v=") ≡ Some (Put (codes "=b=c") (Bytes []) at_one)
+first_equals_sign : parse (codes "put k==b=c ts=1 v=") ≡ Some (Put (codes "=b=c") (Bytes []) at_one no_time)
 unfolding on_words
 first_equals_sign = refl
 
 lines_in_any_order : map parse (codes "put v=x ts=1 k=a" ∷ codes "put ts=1 k=a v=x" ∷ [])
-    ≡ Some (Put (codes "a") (Bytes (codes "x")) at_one) ∷ Some (Put (codes "a") (Bytes (codes "x")) at_one) ∷ []
+    ≡ Some (Put (codes "a") (Bytes (codes "x")) at_one no_time) ∷ Some (Put (codes "a") (Bytes (codes "x")) at_one no_time) ∷ []
 unfolding on_words
 lines_in_any_order = refl
 
 each_command : map parse (codes "get k=a ts=2" ∷ codes "del k=a ts=1,2" ∷ codes "age now=0.9" ∷ codes "stats\t" ∷ codes "flush" ∷ codes "compact keep=2" ∷ codes "layout" ∷ [])
-    ≡ Some (Get (codes "a") (record { wall = 2000000000; logical = 0 })) ∷ Some (Del (codes "a") (AtTime (record { wall = 1000000000; logical = 2 }))) ∷ Some (Age 900000000) ∷ Some Stats
+    ≡ Some (Get (codes "a") (record { wall = 2000000000; logical = 0 })) ∷ Some (Del (codes "a") (AtTime (record { wall = 1000000000; logical = 2 })) no_time) ∷ Some (Age 900000000) ∷ Some Stats
     ∷ Some Flush ∷ Some (Compact 2) ∷ Some Layout ∷ []
 unfolding on_words
 each_command = refl
@@ -57,17 +57,54 @@ lines_without_a_reading = refl
 
 -- a write by a transaction, or at a timestamp; a value that is bytes, or a number
 writes : map parse (codes "put t=A k=a v=abc" ∷ codes "put k=a int=-3 ts=1" ∷ codes "del k=a t=A" ∷ codes "initput k=a ts=1 v=" ∷ codes "initput int=7 t=A k=a" ∷ codes "increment k=a ts=1" ∷ codes "increment inc=-30 k=a t=A" ∷ [])
-    ≡ Some (Put (codes "a") (Bytes (codes "abc")) (InTxn (codes "A"))) ∷ Some (Put (codes "a") (Int (negsuc 2)) at_one) ∷ Some (Del (codes "a") (InTxn (codes "A"))) ∷ Some (InitPut (codes "a") (Bytes []) at_one)
-    ∷ Some (InitPut (codes "a") (Int (pos 7)) (InTxn (codes "A"))) ∷ Some (Increment (codes "a") at_one (pos 1)) ∷ Some (Increment (codes "a") (InTxn (codes "A")) (negsuc 29)) ∷ []
+    ≡ Some (Put (codes "a") (Bytes (codes "abc")) (InTxn (codes "A")) no_time) ∷ Some (Put (codes "a") (Int (negsuc 2)) at_one no_time) ∷ Some (Del (codes "a") (InTxn (codes "A")) no_time)
+    ∷ Some (InitPut (codes "a") (Bytes []) at_one no_time) ∷ Some (InitPut (codes "a") (Int (pos 7)) (InTxn (codes "A")) no_time) ∷ Some (Increment (codes "a") at_one (pos 1) no_time)
+    ∷ Some (Increment (codes "a") (InTxn (codes "A")) (negsuc 29) no_time) ∷ []
 unfolding on_words
 writes = refl
 
+-- a local timestamp in each of them; 0 is none
+local_timestamps : map parse (codes "put t=A k=a v=abc local=1" ∷ codes "del local=1 k=a ts=1" ∷ codes "cput k=a v= local=1 ts=1" ∷ codes "initput k=a ts=1 local=1 v=" ∷ codes "increment k=a ts=1 local=1" ∷ codes "del k=a ts=1 local=0" ∷ [])
+    ≡ Some (Put (codes "a") (Bytes (codes "abc")) (InTxn (codes "A")) one_second) ∷ Some (Del (codes "a") at_one one_second) ∷ Some (ConditionalPut (codes "a") (Bytes []) at_one None one_second)
+    ∷ Some (InitPut (codes "a") (Bytes []) at_one one_second) ∷ Some (Increment (codes "a") at_one (pos 1) one_second) ∷ Some (Del (codes "a") at_one no_time) ∷ []
+unfolding on_words
+local_timestamps = refl
+
 -- conditions: none, bytes that may be empty, or a number
 conditions : map parse (codes "cput k=a ts=1 v=x" ∷ codes "cput k=a t=A int=1 cond=abc" ∷ codes "cput cond= k=a ts=1 v=x" ∷ codes "cput k=a ts=1 v=x cond_int=-1" ∷ [])
-    ≡ Some (ConditionalPut (codes "a") (Bytes (codes "x")) at_one None) ∷ Some (ConditionalPut (codes "a") (Int (pos 1)) (InTxn (codes "A")) (Some (Bytes (codes "abc"))))
-    ∷ Some (ConditionalPut (codes "a") (Bytes (codes "x")) at_one (Some (Bytes []))) ∷ Some (ConditionalPut (codes "a") (Bytes (codes "x")) at_one (Some (Int (negsuc 0)))) ∷ []
+    ≡ Some (ConditionalPut (codes "a") (Bytes (codes "x")) at_one None no_time) ∷ Some (ConditionalPut (codes "a") (Int (pos 1)) (InTxn (codes "A")) (Some (Bytes (codes "abc"))) no_time)
+    ∷ Some (ConditionalPut (codes "a") (Bytes (codes "x")) at_one (Some (Bytes [])) no_time) ∷ Some (ConditionalPut (codes "a") (Bytes (codes "x")) at_one (Some (Int (negsuc 0))) no_time) ∷ []
 unfolding on_words
 conditions = refl
+
+-- resolutions: of a key or a span, where the transaction writes or at a timestamp, of all intents or of some
+resolutions : map parse (codes "resolve t=A k=a status=committed" ∷ codes "resolve status=ABORTED ts=1 k= t=A" ∷ codes "resolve_range t=A k=a end=b status=PENDING" ∷ codes "resolve_range max=3 t=A k=a end=b status=aborted ts=1"
+    ∷ codes "resolve_range t=A k=b end=a status=pending ts=0 max=0" ∷ codes "resolve t=A k=a status=COMMITTED" ∷ codes "resolve_range t=A k=a end= status=committed max=9223372036854775807" ∷ [])
+    ≡ Some (Resolve (codes "A") (codes "a") Committed None) ∷ Some (Resolve (codes "A") [] Aborted (Some one_second)) ∷ Some (ResolveRange (codes "A") (codes "a") (codes "b") Pending None None)
+    ∷ Some (ResolveRange (codes "A") (codes "a") (codes "b") Aborted (Some one_second) (Some 3)) ∷ Some (ResolveRange (codes "A") (codes "b") (codes "a") Pending (Some no_time) (Some 0))
+    ∷ Some (Resolve (codes "A") (codes "a") Committed None) ∷ Some (ResolveRange (codes "A") (codes "a") [] Committed None (Some 9223372036854775807)) ∷ []
+unfolding on_words
+resolutions = refl
+
+-- a bad status, and words of a resolution that are wanting, twice, of others or in no form
+resolutions_without_a_reading : list_all (λ l. is_none (parse l))
+    (codes "resolve t=A k=a" ∷ codes "resolve t=A k=a status=" ∷ codes "resolve t=A k=a status" ∷ codes "resolve t=A k=a status=done" ∷ codes "resolve t=A k=a status=Committed" ∷ codes "resolve t=A k=a status=commit"
+    ∷ codes "resolve t=A k=a status=abortedx" ∷ codes "resolve t=A k=a status=pending status=pending" ∷ codes "resolve k=a status=committed" ∷ codes "resolve t=A status=committed" ∷ codes "resolve t= k=a status=committed"
+    ∷ codes "resolve t=A k=\\x status=committed" ∷ codes "resolve t=A k=a status=committed ts=" ∷ codes "resolve t=A k=a status=committed ts" ∷ codes "resolve t=A k=a end=b status=committed" ∷ codes "resolve t=A k=a status=committed max=1"
+    ∷ codes "resolve t=A k=a status=committed local=1" ∷ [])
+    ≡ true
+unfolding on_words
+resolutions_without_a_reading = refl
+
+-- the same of a span; a max without a number
+resolutions_of_spans_without_a_reading : list_all (λ l. is_none (parse l))
+    (codes "resolve_range t=A k=a end=b" ∷ codes "resolve_range t=A k=a end=b status=over" ∷ codes "resolve_range t=A k=a status=aborted" ∷ codes "resolve_range t=A end=b status=aborted" ∷ codes "resolve_range k=a end=b status=aborted"
+    ∷ codes "resolve_range t=A k=a end=\\ status=aborted" ∷ codes "resolve_range t=A k=a end=b status=aborted max" ∷ codes "resolve_range t=A k=a end=b status=aborted max=" ∷ codes "resolve_range t=A k=a end=b status=aborted max=-1"
+    ∷ codes "resolve_range t=A k=a end=b status=aborted max=9223372036854775808" ∷ codes "resolve_range t=A k=a end=b status=aborted max=00000000000000000001" ∷ codes "resolve_range t=A k=a end=b status=aborted max=1 max=1"
+    ∷ codes "resolve_range t=A k=a end=b end=c status=aborted" ∷ codes "resolve_range t=A k=a end=b status=aborted ts=1,2147483648" ∷ codes "resolve_range t=A k=a end=b status=aborted v=x" ∷ [])
+    ≡ true
+unfolding on_words
+resolutions_of_spans_without_a_reading = refl
 
 -- an id: fifteen zeros and a byte
 abbrev id_of : ℕ → List ℕ
@@ -94,9 +131,9 @@ words_against_each_other = refl
 
 -- words that a command does not have, has once, or wants
 other_words : list_all (λ l. is_none (parse l))
-    (codes "put k=a ts=1 v=x cond=x" ∷ codes "put t=A t=B k=a v=x" ∷ codes "put t k=a v=x" ∷ codes "put k=a ts=1 v=x local=1" ∷ codes "del t=A k=a local=1" ∷ codes "get t=A k=a" ∷ codes "cput ts=1 v=x"
-    ∷ codes "cput k=a ts=1 v=x cond=x cond=x" ∷ codes "cput k=a ts=1 v=x local=1" ∷ codes "initput k=a ts=1 v=x cond=x" ∷ codes "initput k=a ts=1 v=x local=1" ∷ codes "increment ts=1" ∷ codes "increment k=a ts=1 v=x"
-    ∷ codes "increment k=a ts=1 inc=1 inc=1" ∷ codes "increment k=a ts=1 local=1" ∷ codes "txn_begin t=A" ∷ codes "txn_begin ts=1" ∷ codes "txn_begin t=A ts=1 n=1" ∷ codes "txn_step" ∷ codes "txn_step t=A n"
+    (codes "put k=a ts=1 v=x cond=x" ∷ codes "put t=A t=B k=a v=x" ∷ codes "put t k=a v=x" ∷ codes "put k=a ts=1 v=x local=1 local=1" ∷ codes "del t=A k=a local" ∷ codes "get k=a ts=1 local=1" ∷ codes "get k=a ts=1 inconsistent=1" ∷ codes "get t=A k=a" ∷ codes "cput ts=1 v=x"
+    ∷ codes "cput k=a ts=1 v=x cond=x cond=x" ∷ codes "cput k=a ts=1 v=x max=1" ∷ codes "initput k=a ts=1 v=x cond=x" ∷ codes "initput k=a ts=1 v=x status=committed" ∷ codes "increment ts=1" ∷ codes "increment k=a ts=1 v=x"
+    ∷ codes "increment k=a ts=1 inc=1 inc=1" ∷ codes "increment k=a ts=1 end=b" ∷ codes "txn_begin t=A" ∷ codes "txn_begin ts=1" ∷ codes "txn_begin t=A ts=1 n=1" ∷ codes "txn_step" ∷ codes "txn_step t=A n"
     ∷ codes "txn_advance t=A" ∷ codes "txn_restart" ∷ codes "txn_refresh" ∷ codes "txn_refresh t=A ts=1" ∷ codes "txn_ignore_seqs t=A" ∷ codes "txn_remove" ∷ codes "txn_remove t=A t=A" ∷ codes "txn" ∷ codes "txn_ t=A" ∷ [])
     ≡ true
 unfolding on_words
@@ -105,7 +142,7 @@ other_words = refl
 -- a name, an id, ranges, a time or a number that is none
 values_without_a_reading : list_all (λ l. is_none (parse l))
     (codes "put t= k=a v=x" ∷ codes "put t=a.b k=a v=x" ∷ codes "put k=a ts=x v=x" ∷ codes "put k=a ts=1 v=\\x" ∷ codes "put k=a ts=1 int=" ∷ codes "put k=a ts=1 int=1x" ∷ codes "del t=A= k=a" ∷ codes "cput k=a ts=1 v=x cond=\\"
-    ∷ codes "cput k=a ts=1 v=x cond_int=+1" ∷ codes "initput k=a t=a+b v=x" ∷ codes "increment k=a ts=1 inc=9223372036854775808" ∷ codes "increment k=a ts=1 inc=-9223372036854775809" ∷ codes "txn_begin t=\"A\" ts=1"
+    ∷ codes "cput k=a ts=1 v=x cond_int=+1" ∷ codes "put k=a ts=1 v=x local=" ∷ codes "del k=a ts=1 local=-1" ∷ codes "initput k=a ts=1 v=x local=1." ∷ codes "cput k=a ts=1 v=x local=x" ∷ codes "increment k=a ts=1 local=9223372036.854775808" ∷ codes "initput k=a t=a+b v=x" ∷ codes "increment k=a ts=1 inc=9223372036854775808" ∷ codes "increment k=a ts=1 inc=-9223372036854775809" ∷ codes "txn_begin t=\"A\" ts=1"
     ∷ codes "txn_begin t=A ts=1,2147483648" ∷ codes "txn_begin t=A ts=1 limit=-1" ∷ codes "txn_begin t=A ts=1 limit=" ∷ codes "txn_begin t=A ts=1 id=" ∷ codes "txn_begin t=A ts=1 id=1" ∷ codes "txn_step t=A n=2147483648"
     ∷ codes "txn_step t=A n=-1" ∷ codes "txn_step t=A n=00000000000000000001" ∷ codes "txn_advance t=A ts=1." ∷ codes "txn_restart t=A ts=" ∷ codes "txn_ignore_seqs t=A seqs=" ∷ codes "txn_ignore_seqs t=A seqs=1-2,"
     ∷ codes "txn_ignore_seqs t=A seqs=0-4294967296" ∷ [])

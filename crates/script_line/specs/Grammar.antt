@@ -1,15 +1,21 @@
 -- What a line of a script says.
-use Rattle.std.specs.Prelude.{ℕ, ℤ, pos, Bool, false, List, [], ◌∷◌, map, Option, Some, None, option_map, codes, bytes_eq, ◌==◌, if◌then◌else◌}
+use Rattle.std.specs.Prelude.{ℕ, ℤ, pos, Bool, false, ◌||◌, List, [], ◌∷◌, map, Option, Some, None, option_map, codes, bytes_eq, ◌==◌, if◌then◌else◌}
 use Rattle.mvcc_key.specs.Order.{Timestamp, no_time, Key}
 use Rattle.mvcc_key.specs.Limits.{max_count}
 use Rattle.mvcc_key.specs.History.{Body, Bytes, Int, SeqRange}
-use Rattle.script_words.specs.Forms.{◌>>=◌, name, text, integer, wall, time, number_from, number_to, ranges, id}
+use Rattle.script_words.specs.Forms.{◌>>=◌, name, text, integer, wall, time, max_number, number_from, number_to, ranges, id}
 use Rattle.script_words.specs.Words.{Word, words, word_of, only, required, optional, perhaps, one_of, up_to_one_of}
 
 -- who writes: no transaction, at a timestamp, or the transaction of a name
 pub data Who : Type 0 where
   AtTime : (ts : Timestamp) → Who
   InTxn : (name : List ℕ) → Who
+
+-- how a transaction ended, or that it goes on
+pub data Status : Type 0 where
+  Committed : Status
+  Aborted : Status
+  Pending : Status
 
 -- what a line says
 pub data Line : Type 0 where
@@ -21,11 +27,13 @@ pub data Line : Type 0 where
   TxnRefresh : (name : List ℕ) → Line
   TxnIgnoreSeqs : (name : List ℕ) (ranges : List SeqRange) → Line
   TxnRemove : (name : List ℕ) → Line
-  Put : (key : Key) (value : Body) (who : Who) → Line
-  Del : (key : Key) (who : Who) → Line
-  ConditionalPut : (key : Key) (value : Body) (who : Who) (expected : Option Body) → Line
-  InitPut : (key : Key) (value : Body) (who : Who) → Line
-  Increment : (key : Key) (who : Who) (by : ℤ) → Line
+  Put : (key : Key) (value : Body) (who : Who) (local : Timestamp) → Line
+  Del : (key : Key) (who : Who) (local : Timestamp) → Line
+  ConditionalPut : (key : Key) (value : Body) (who : Who) (expected : Option Body) (local : Timestamp) → Line
+  InitPut : (key : Key) (value : Body) (who : Who) (local : Timestamp) → Line
+  Increment : (key : Key) (who : Who) (by : ℤ) (local : Timestamp) → Line
+  Resolve : (name : List ℕ) (key : Key) (status : Status) (ts : Option Timestamp) → Line
+  ResolveRange : (name : List ℕ) (start end : Key) (status : Status) (ts : Option Timestamp) (max : Option ℕ) → Line
   Get : (key : Key) (ts : Timestamp) → Line
   Age : (now : ℕ) → Line
   Stats : Line
@@ -49,9 +57,21 @@ bytes_value bytes = option_map Bytes (text bytes)
 abbrev pub int_value : List ℕ → Option Body
 int_value bytes = option_map Int (integer bytes)
 
+-- a status in small letters or in capitals
+unfoldable pub status_of : List ℕ → Option Status
+status_of bytes =
+    if bytes_eq bytes (codes "committed") || bytes_eq bytes (codes "COMMITTED") then Some Committed
+    else if bytes_eq bytes (codes "aborted") || bytes_eq bytes (codes "ABORTED") then Some Aborted
+    else if bytes_eq bytes (codes "pending") || bytes_eq bytes (codes "PENDING") then Some Pending
+    else None
+
 -- k=TEXT
 abbrev pub key : List Word → Option Key
 key = required (codes "k") text
+
+-- end=TEXT
+abbrev pub end : List Word → Option Key
+end = required (codes "end") text
 
 -- t=NAME
 abbrev pub txn : List Word → Option (List ℕ)
@@ -72,6 +92,22 @@ value = one_of (codes "v") bytes_value (codes "int") int_value
 -- cond=TEXT or cond_int=INT or neither
 abbrev pub expected : List Word → Option (Option Body)
 expected = up_to_one_of (codes "cond") bytes_value (codes "cond_int") int_value
+
+-- local=TIME, or no time
+abbrev pub local : List Word → Option Timestamp
+local = optional (codes "local") time no_time
+
+-- status=STATUS
+abbrev pub status : List Word → Option Status
+status = required (codes "status") status_of
+
+-- ts=TIME, where it stands
+abbrev pub perhaps_timestamp : List Word → Option (Option Timestamp)
+perhaps_timestamp = perhaps (codes "ts") time
+
+-- max=NUM, where it stands
+abbrev pub max : List Word → Option (Option ℕ)
+max = perhaps (codes "max") (number_to max_number)
 
 -- now=MOMENT
 abbrev pub now : List Word → Option ℕ
@@ -143,50 +179,77 @@ txn_remove given = do
   t ← txn ws
   Some (TxnRemove t)
 
--- k=TEXT value who
+-- k=TEXT value who [local=TIME]
 unfoldable pub put : List Word → Option Line
 put given = do
-  ws ← only (codes "k" ∷ codes "v" ∷ codes "int" ∷ codes "t" ∷ codes "ts" ∷ []) [] given
+  ws ← only (codes "k" ∷ codes "v" ∷ codes "int" ∷ codes "t" ∷ codes "ts" ∷ codes "local" ∷ []) [] given
   k ← key ws
   v ← value ws
   w ← who ws
-  Some (Put k v w)
+  l ← local ws
+  Some (Put k v w l)
 
--- k=TEXT who
+-- k=TEXT who [local=TIME]
 unfoldable pub del : List Word → Option Line
 del given = do
-  ws ← only (codes "k" ∷ codes "t" ∷ codes "ts" ∷ []) [] given
+  ws ← only (codes "k" ∷ codes "t" ∷ codes "ts" ∷ codes "local" ∷ []) [] given
   k ← key ws
   w ← who ws
-  Some (Del k w)
+  l ← local ws
+  Some (Del k w l)
 
--- k=TEXT value who, and the value that is expected or none
+-- k=TEXT value who [local=TIME], and the value that is expected or none
 unfoldable pub cput : List Word → Option Line
 cput given = do
-  ws ← only (codes "k" ∷ codes "v" ∷ codes "int" ∷ codes "t" ∷ codes "ts" ∷ codes "cond" ∷ codes "cond_int" ∷ []) [] given
+  ws ← only (codes "k" ∷ codes "v" ∷ codes "int" ∷ codes "t" ∷ codes "ts" ∷ codes "cond" ∷ codes "cond_int" ∷ codes "local" ∷ []) [] given
   k ← key ws
   v ← value ws
   w ← who ws
   e ← expected ws
-  Some (ConditionalPut k v w e)
+  l ← local ws
+  Some (ConditionalPut k v w e l)
 
--- k=TEXT value who
+-- k=TEXT value who [local=TIME]
 unfoldable pub initput : List Word → Option Line
 initput given = do
-  ws ← only (codes "k" ∷ codes "v" ∷ codes "int" ∷ codes "t" ∷ codes "ts" ∷ []) [] given
+  ws ← only (codes "k" ∷ codes "v" ∷ codes "int" ∷ codes "t" ∷ codes "ts" ∷ codes "local" ∷ []) [] given
   k ← key ws
   v ← value ws
   w ← who ws
-  Some (InitPut k v w)
+  l ← local ws
+  Some (InitPut k v w l)
 
--- k=TEXT who [inc=INT]
+-- k=TEXT who [inc=INT] [local=TIME]
 unfoldable pub increment : List Word → Option Line
 increment given = do
-  ws ← only (codes "k" ∷ codes "t" ∷ codes "ts" ∷ codes "inc" ∷ []) [] given
+  ws ← only (codes "k" ∷ codes "t" ∷ codes "ts" ∷ codes "inc" ∷ codes "local" ∷ []) [] given
   k ← key ws
   w ← who ws
   by ← optional (codes "inc") integer (pos 1) ws
-  Some (Increment k w by)
+  l ← local ws
+  Some (Increment k w by l)
+
+-- t=NAME k=TEXT status=STATUS [ts=TIME]
+unfoldable pub resolve : List Word → Option Line
+resolve given = do
+  ws ← only (codes "t" ∷ codes "k" ∷ codes "status" ∷ codes "ts" ∷ []) [] given
+  t ← txn ws
+  k ← key ws
+  s ← status ws
+  ts ← perhaps_timestamp ws
+  Some (Resolve t k s ts)
+
+-- t=NAME k=TEXT end=TEXT status=STATUS [ts=TIME] [max=NUM]
+unfoldable pub resolve_range : List Word → Option Line
+resolve_range given = do
+  ws ← only (codes "t" ∷ codes "k" ∷ codes "end" ∷ codes "status" ∷ codes "ts" ∷ codes "max" ∷ []) [] given
+  t ← txn ws
+  k ← key ws
+  e ← end ws
+  s ← status ws
+  ts ← perhaps_timestamp ws
+  m ← max ws
+  Some (ResolveRange t k e s ts m)
 
 -- k=TEXT ts=TIME
 unfoldable pub get : List Word → Option Line
@@ -231,6 +294,8 @@ command name ws =
     else if bytes_eq name (codes "cput") then cput ws
     else if bytes_eq name (codes "initput") then initput ws
     else if bytes_eq name (codes "increment") then increment ws
+    else if bytes_eq name (codes "resolve") then resolve ws
+    else if bytes_eq name (codes "resolve_range") then resolve_range ws
     else if bytes_eq name (codes "age") then age ws
     else if bytes_eq name (codes "stats") then alone Stats ws
     else if bytes_eq name (codes "flush") then alone Flush ws

@@ -1,14 +1,17 @@
 //! What a line of a script says: its command, and the words of each.
 ghost use Rattle.std.specs.Prelude.{◌≡◌, map};
-ghost use Rattle.script_line.specs.Grammar.{age, alone, begins_comment, command, compact, cput, del, get, increment, initput, parse, put};
+ghost use Rattle.script_line.specs.Grammar.{age, alone, begins_comment, command, compact, cput, del, get, increment, initput, parse, put, resolve, resolve_range};
 ghost use Rattle.script_words.specs.views.Reading.{Gives};
 ghost use Rattle.script_line.specs.views.SeenLine.{line_of};
 ghost use Rattle.script_words.specs.views.SeenWord.{word_of};
 
 use crate::line::Line;
-use crate::options::{expected, optional_addend, required, value, who};
+use crate::options::{
+    expected, optional_addend, optional_time, perhaps_limit, perhaps_time, required, required_name,
+    required_status, required_text, required_time, value, who,
+};
 use crate::txn_commands::txn_command;
-use script_words::forms::{moment, run_count, text, time};
+use script_words::forms::{moment, run_count};
 use script_words::{LineFault, Word, next_word, read_values, read_words};
 use std::alloc::Global;
 
@@ -55,6 +58,10 @@ fn command<'a>(alloc: Global, name: &[u8], words: &[Word<'a>]) -> Result<Line<'a
         initput(alloc, words)
     } else if name == b"increment".as_slice() {
         increment(alloc, words)
+    } else if name == b"resolve".as_slice() {
+        resolve(alloc, words)
+    } else if name == b"resolve_range".as_slice() {
+        resolve_range(alloc, words)
     } else if name == b"age".as_slice() {
         age(words)
     } else if name == b"stats".as_slice() {
@@ -70,18 +77,19 @@ fn command<'a>(alloc: Global, name: &[u8], words: &[Word<'a>]) -> Result<Line<'a
     }
 }
 
-/// `k=TEXT`, `v=TEXT` or `int=INT`, `t=NAME` or `ts=TIME`
+/// `k=TEXT`, `v=TEXT` or `int=INT`, `t=NAME` or `ts=TIME`, `[local=TIME]`
 #[tactic(auto, unfolding(crate::specs::Grammar::put))]
 fn put<'a>(alloc: Global, words: &[Word<'a>]) -> Result<Line<'a>, LineFault>
     ensures { Gives line_of result (put (map word_of words.now)) }
 {
-    let mut values = [None; 5];
-    read_values(words, &["k", "v", "int", "t", "ts"], &mut values)?;
-    let [key, bytes, int, txn, ts] = values;
+    let mut values = [None; 6];
+    read_values(words, &["k", "v", "int", "t", "ts", "local"], &mut values)?;
+    let [key, bytes, int, txn, ts, local] = values;
     Ok(Line::Put {
-        key: text(alloc, required(key)?)?,
+        key: required_text(alloc, key)?,
         value: value(alloc, bytes, int)?,
         who: who(txn, ts)?,
+        local: optional_time(local)?,
     })
 }
 
@@ -94,22 +102,23 @@ fn get<'a>(alloc: Global, words: &[Word<'a>]) -> Result<Line<'a>, LineFault>
     read_values(words, &["k", "ts"], &mut values)?;
     let [key, ts] = values;
     Ok(Line::Get {
-        key: text(alloc, required(key)?)?,
-        ts: time(required(ts)?)?,
+        key: required_text(alloc, key)?,
+        ts: required_time(ts)?,
     })
 }
 
-/// `k=TEXT`, `t=NAME` or `ts=TIME`
+/// `k=TEXT`, `t=NAME` or `ts=TIME`, `[local=TIME]`
 #[tactic(auto, unfolding(crate::specs::Grammar::del))]
 fn del<'a>(alloc: Global, words: &[Word<'a>]) -> Result<Line<'a>, LineFault>
     ensures { Gives line_of result (del (map word_of words.now)) }
 {
-    let mut values = [None; 3];
-    read_values(words, &["k", "t", "ts"], &mut values)?;
-    let [key, txn, ts] = values;
+    let mut values = [None; 4];
+    read_values(words, &["k", "t", "ts", "local"], &mut values)?;
+    let [key, txn, ts, local] = values;
     Ok(Line::Del {
-        key: text(alloc, required(key)?)?,
+        key: required_text(alloc, key)?,
         who: who(txn, ts)?,
+        local: optional_time(local)?,
     })
 }
 
@@ -118,15 +127,16 @@ fn del<'a>(alloc: Global, words: &[Word<'a>]) -> Result<Line<'a>, LineFault>
 fn cput<'a>(alloc: Global, words: &[Word<'a>]) -> Result<Line<'a>, LineFault>
     ensures { Gives line_of result (cput (map word_of words.now)) }
 {
-    let names = ["k", "v", "int", "t", "ts", "cond", "cond_int"];
-    let mut values = [None; 7];
+    let names = ["k", "v", "int", "t", "ts", "cond", "cond_int", "local"];
+    let mut values = [None; 8];
     read_values(words, &names, &mut values)?;
-    let [key, bytes, int, txn, ts, cond, cond_int] = values;
+    let [key, bytes, int, txn, ts, cond, cond_int, local] = values;
     Ok(Line::ConditionalPut {
-        key: text(alloc, required(key)?)?,
+        key: required_text(alloc, key)?,
         value: value(alloc, bytes, int)?,
         who: who(txn, ts)?,
         expected: expected(alloc, cond, cond_int)?,
+        local: optional_time(local)?,
     })
 }
 
@@ -135,28 +145,68 @@ fn cput<'a>(alloc: Global, words: &[Word<'a>]) -> Result<Line<'a>, LineFault>
 fn initput<'a>(alloc: Global, words: &[Word<'a>]) -> Result<Line<'a>, LineFault>
     ensures { Gives line_of result (initput (map word_of words.now)) }
 {
-    let mut values = [None; 5];
-    read_values(words, &["k", "v", "int", "t", "ts"], &mut values)?;
-    let [key, bytes, int, txn, ts] = values;
+    let mut values = [None; 6];
+    read_values(words, &["k", "v", "int", "t", "ts", "local"], &mut values)?;
+    let [key, bytes, int, txn, ts, local] = values;
     Ok(Line::InitPut {
-        key: text(alloc, required(key)?)?,
+        key: required_text(alloc, key)?,
         value: value(alloc, bytes, int)?,
         who: who(txn, ts)?,
+        local: optional_time(local)?,
     })
 }
 
-/// `k=TEXT`, `t=NAME` or `ts=TIME`, `[inc=INT]`
+/// `k=TEXT`, `t=NAME` or `ts=TIME`, `[inc=INT]`, `[local=TIME]`
 #[tactic(auto, unfolding(crate::specs::Grammar::increment))]
 fn increment<'a>(alloc: Global, words: &[Word<'a>]) -> Result<Line<'a>, LineFault>
     ensures { Gives line_of result (increment (map word_of words.now)) }
 {
-    let mut values = [None; 4];
-    read_values(words, &["k", "t", "ts", "inc"], &mut values)?;
-    let [key, txn, ts, addend] = values;
+    let mut values = [None; 5];
+    read_values(words, &["k", "t", "ts", "inc", "local"], &mut values)?;
+    let [key, txn, ts, addend, local] = values;
     Ok(Line::Increment {
-        key: text(alloc, required(key)?)?,
+        key: required_text(alloc, key)?,
         who: who(txn, ts)?,
         by: optional_addend(addend)?,
+        local: optional_time(local)?,
+    })
+}
+
+/// `t=NAME k=TEXT status=STATUS [ts=TIME]`
+#[tactic(auto, unfolding(crate::specs::Grammar::resolve))]
+fn resolve<'a>(alloc: Global, words: &[Word<'a>]) -> Result<Line<'a>, LineFault>
+    ensures { Gives line_of result (resolve (map word_of words.now)) }
+{
+    let mut values = [None; 4];
+    read_values(words, &["t", "k", "status", "ts"], &mut values)?;
+    let [txn, key, status, ts] = values;
+    Ok(Line::Resolve {
+        name: required_name(txn)?,
+        key: required_text(alloc, key)?,
+        status: required_status(status)?,
+        ts: perhaps_time(ts)?,
+    })
+}
+
+/// `t=NAME k=TEXT end=TEXT status=STATUS [ts=TIME] [max=NUM]`
+#[tactic(auto, unfolding(crate::specs::Grammar::resolve_range))]
+fn resolve_range<'a>(alloc: Global, words: &[Word<'a>]) -> Result<Line<'a>, LineFault>
+    ensures { Gives line_of result (resolve_range (map word_of words.now)) }
+{
+    let mut values = [None; 6];
+    read_values(
+        words,
+        &["t", "k", "end", "status", "ts", "max"],
+        &mut values,
+    )?;
+    let [txn, start, end, status, ts, max] = values;
+    Ok(Line::ResolveRange {
+        name: required_name(txn)?,
+        start: required_text(alloc, start)?,
+        end: required_text(alloc, end)?,
+        status: required_status(status)?,
+        ts: perhaps_time(ts)?,
+        max: perhaps_limit(max)?,
     })
 }
 

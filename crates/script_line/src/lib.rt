@@ -9,7 +9,7 @@ mod txn_commands;
 
 pub use command_line::{Options, read_command_line};
 pub use grammar::parse_line;
-pub use line::{Line, Value, Who};
+pub use line::{Line, Status, Value, Who};
 
 #[cfg(test)]
 mod tests;

@@ -39,6 +39,14 @@ impl Value<'_> {
     }
 }
 
+/// How a transaction ended, or that it goes on: `status=STATUS`.
+#[derive(Clone, Copy, Debug)]
+pub enum Status {
+    Committed,
+    Aborted,
+    Pending,
+}
+
 /// What a line says. A time that is left out is [`Timestamp::NONE`]; a name is 1 to 64 letters, digits, underscores and dashes.
 #[derive(Debug, Drop)]
 pub enum Line<'a> {
@@ -79,10 +87,14 @@ pub enum Line<'a> {
         key: CowSlice<'a, u8>,
         value: Value<'a>,
         who: Who<'a>,
+        /// The time that the writer's own clock showed, or [`Timestamp::NONE`].
+        local: Timestamp,
     },
     Del {
         key: CowSlice<'a, u8>,
         who: Who<'a>,
+        /// As with `Put`.
+        local: Timestamp,
     },
     ConditionalPut {
         key: CowSlice<'a, u8>,
@@ -90,17 +102,41 @@ pub enum Line<'a> {
         who: Who<'a>,
         /// The value that is to be there; `None` where none is.
         expected: Option<Value<'a>>,
+        /// As with `Put`.
+        local: Timestamp,
     },
     InitPut {
         key: CowSlice<'a, u8>,
         value: Value<'a>,
         who: Who<'a>,
+        /// As with `Put`.
+        local: Timestamp,
     },
     Increment {
         key: CowSlice<'a, u8>,
         who: Who<'a>,
         /// What is added; 1 where it is left out.
         by: i64,
+        /// As with `Put`.
+        local: Timestamp,
+    },
+    Resolve {
+        name: &'a str,
+        key: CowSlice<'a, u8>,
+        status: Status,
+        /// At which the transaction ended or goes on; `None` for where it writes.
+        ts: Option<Timestamp>,
+    },
+    /// Of the keys from `start` on and below `end`.
+    ResolveRange {
+        name: &'a str,
+        start: CowSlice<'a, u8>,
+        end: CowSlice<'a, u8>,
+        status: Status,
+        /// As with `Resolve`.
+        ts: Option<Timestamp>,
+        /// At most so many intents, below 2^63; all of them where it is left out.
+        max: Option<u64>,
     },
     Get {
         key: CowSlice<'a, u8>,

@@ -6,8 +6,10 @@ ghost use Rattle.script_line.specs.views.SeenLine.{line_of};
 ghost use Rattle.script_words.specs.views.SeenWord.{word_of};
 
 use crate::line::Line;
-use crate::options::{optional_count, optional_id, optional_time, required};
-use script_words::forms::{name, ranges, time};
+use crate::options::{
+    optional_count, optional_id, optional_time, required, required_name, required_time,
+};
+use script_words::forms::ranges;
 use script_words::{LineFault, Word, read_values};
 use std::alloc::Global;
 
@@ -48,8 +50,8 @@ fn begin<'a>(words: &[Word<'a>]) -> Result<Line<'a>, LineFault>
     read_values(words, &["t", "ts", "limit", "id"], &mut values)?;
     let [txn, ts, limit, id] = values;
     Ok(Line::TxnBegin {
-        name: name(required(txn)?)?,
-        ts: time(required(ts)?)?,
+        name: required_name(txn)?,
+        ts: required_time(ts)?,
         limit: optional_time(limit)?,
         id: optional_id(id)?,
     })
@@ -64,7 +66,7 @@ fn step<'a>(words: &[Word<'a>]) -> Result<Line<'a>, LineFault>
     read_values(words, &["t", "n"], &mut values)?;
     let [txn, n] = values;
     Ok(Line::TxnStep {
-        name: name(required(txn)?)?,
+        name: required_name(txn)?,
         n: optional_count(n)?,
     })
 }
@@ -78,8 +80,8 @@ fn advance<'a>(words: &[Word<'a>]) -> Result<Line<'a>, LineFault>
     read_values(words, &["t", "ts"], &mut values)?;
     let [txn, ts] = values;
     Ok(Line::TxnAdvance {
-        name: name(required(txn)?)?,
-        ts: time(required(ts)?)?,
+        name: required_name(txn)?,
+        ts: required_time(ts)?,
     })
 }
 
@@ -92,7 +94,7 @@ fn restart<'a>(words: &[Word<'a>]) -> Result<Line<'a>, LineFault>
     read_values(words, &["t", "ts"], &mut values)?;
     let [txn, ts] = values;
     Ok(Line::TxnRestart {
-        name: name(required(txn)?)?,
+        name: required_name(txn)?,
         ts: optional_time(ts)?,
     })
 }
@@ -106,7 +108,7 @@ fn refresh<'a>(words: &[Word<'a>]) -> Result<Line<'a>, LineFault>
     read_values(words, &["t"], &mut values)?;
     let [txn] = values;
     Ok(Line::TxnRefresh {
-        name: name(required(txn)?)?,
+        name: required_name(txn)?,
     })
 }
 
@@ -119,7 +121,7 @@ fn ignore_seqs<'a>(alloc: Global, words: &[Word<'a>]) -> Result<Line<'a>, LineFa
     read_values(words, &["t", "seqs"], &mut values)?;
     let [txn, seqs] = values;
     Ok(Line::TxnIgnoreSeqs {
-        name: name(required(txn)?)?,
+        name: required_name(txn)?,
         ranges: ranges(alloc, required(seqs)?)?,
     })
 }
@@ -133,6 +135,6 @@ fn remove<'a>(words: &[Word<'a>]) -> Result<Line<'a>, LineFault>
     read_values(words, &["t"], &mut values)?;
     let [txn] = values;
     Ok(Line::TxnRemove {
-        name: name(required(txn)?)?,
+        name: required_name(txn)?,
     })
 }

@@ -10,6 +10,7 @@ use Rattle.intent_meta.specs.Record.{record_bytes, record_of}
 use Rattle.intent_meta.specs.StoredPairs.{stored_pairs}
 use Rattle.read_rule.specs.Read.{get, decide, listed}
 use Rattle.write_rule.specs.Write.{write, value_before}
+use Rattle.intent_resolve.specs.Resolve.{resolve_intent, resolve, resolve_each, resolve_range}
 use Rattle.mvcc_engine.specs.Step.{statistics, step}
 use Rattle.script_line.proofs.Examples.{on_words}
 use Rattle.script_words.specs.Forms.{text}
@@ -19,7 +20,7 @@ use Rattle.script_run.specs.Output.{without_return, carry_out, output_from, line
 
 -- what an example unfolds
 unfoldable pub on_literals : ⊤
-unfolding on_words on_texts items fragments varint value_bytes plain_body value_of record_bytes record_of dead_since overflowing key_sums compute_stats stored_pairs after_batch flushed compacted get decide listed write value_before statistics step without_return carry_out output_from lines script_output output whole_part
+unfolding on_words on_texts items fragments varint value_bytes plain_body value_of record_bytes record_of dead_since overflowing key_sums compute_stats stored_pairs after_batch flushed compacted get decide listed write value_before resolve_intent resolve resolve_each resolve_range statistics step without_return carry_out output_from lines script_output output whole_part
 on_literals = tt
 
 -- what is written of bytes, and read again
@@ -119,3 +120,21 @@ one_id : output (codes "run" ∷ []) (codes "txn_begin t=A ts=1 id=0000000000000
     ≡ codes "txn: \"A\" id=00000000-0000-0000-0000-000000000002 epoch=0 seq=0 read=1.000000000,0 write=1.000000000,0 limit=0.000000000,0 ignored=none\nerror: TxnExists\ntxn: \"B\" id=00000000-0000-0000-0000-000000000002 epoch=0 seq=0 read=2.000000000,0 write=2.000000000,0 limit=0.000000000,0 ignored=none\nok\nok\ntxn: \"B\" id=00000000-0000-0000-0000-000000000002 epoch=0 seq=1 read=2.000000000,0 write=2.000000000,0 limit=0.000000000,0 ignored=none\nok\nok\nerror: ReplayMismatch stored=/BYTES/x\n"
 unfolding on_literals
 one_id = refl
+
+-- a commit below its intent is refused, and one above it moves the value there
+resolved : output (codes "run" ∷ []) (codes "txn_begin t=A ts=2\nput t=A k=a v=abc\ntxn_step t=A\nput t=A k=a v=de\nresolve t=A k=a status=committed ts=1\nresolve t=A k=a status=committed ts=4\nget k=a ts=4\nget k=a ts=3\nresolve t=A k=a status=committed ts=4\n")
+    ≡ codes "txn: \"A\" id=00000000-0000-0000-0000-000000000001 epoch=0 seq=0 read=2.000000000,0 write=2.000000000,0 limit=0.000000000,0 ignored=none\nok\ntxn: \"A\" id=00000000-0000-0000-0000-000000000001 epoch=0 seq=1 read=2.000000000,0 write=2.000000000,0 limit=0.000000000,0 ignored=none\nok\nerror: CommitBelowIntent ts=2.000000000,0\nresolve: found=true\nget: \"a\" -> /BYTES/de @4.000000000,0\nget: \"a\" -> <no data>\nresolve: found=false\n"
+unfolding on_literals
+resolved = refl
+
+-- what was written at ignored sequences is dropped, and an intent of which nothing is left goes
+dropped : output (codes "run" ∷ []) (codes "txn_begin t=A ts=2\nput t=A k=a v=abc\ntxn_ignore_seqs t=A seqs=0-1\nresolve t=A k=a status=pending\nget k=a ts=9\nresolve t=A k=a status=aborted\n")
+    ≡ codes "txn: \"A\" id=00000000-0000-0000-0000-000000000001 epoch=0 seq=0 read=2.000000000,0 write=2.000000000,0 limit=0.000000000,0 ignored=none\nok\ntxn: \"A\" id=00000000-0000-0000-0000-000000000001 epoch=0 seq=0 read=2.000000000,0 write=2.000000000,0 limit=0.000000000,0 ignored=0-1\nresolve: found=true\nget: \"a\" -> <no data>\nresolve: found=false\n"
+unfolding on_literals
+dropped = refl
+
+-- the intents of a span are resolved up to the most, and what is left is told
+spans : output (codes "run" ∷ []) (codes "txn_begin t=A ts=2\nput t=A k=a v=x\nput t=A k=c v=x\nresolve_range t=A k=a end=z status=aborted max=1\nresolve_range t=A k=z end=a status=aborted\nget k=a ts=9\n")
+    ≡ codes "txn: \"A\" id=00000000-0000-0000-0000-000000000001 epoch=0 seq=0 read=2.000000000,0 write=2.000000000,0 limit=0.000000000,0 ignored=none\nok\nok\nresolve_range: resolved=1\nresume: \"c\"-\"z\"\nerror: BadSpan\nget: \"a\" -> <no data>\n"
+unfolding on_literals
+spans = refl

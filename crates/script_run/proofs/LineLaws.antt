@@ -1,6 +1,11 @@
 -- The lines of a script, from the front, and its whole lines, from the back.
-use Rattle.std.specs.Prelude.{◌≡◌, ℕ, ◌+◌, ◌<◌, Bool, true, false, List, [], ◌∷◌, ◌++◌, length, take, drop, position, ◌==◌, Some, None}
-use Rattle.std.proofs.Common.{refl, sym, ap, ◌∙◌, arith}
+use Rattle.std.specs.Prelude.{◌≡◌, ℕ, ◌+◌, ◌<◌, Bool, true, false, List, [], ◌∷◌, ◌++◌, length, take, drop, position, ◌==◌, Option, Some, None}
+use Rattle.std.specs.List.{position_or_len}
+use Rattle.std.proofs.Common.{refl, sym, ap, ◌∙◌, arith, ⊎_elim}
+use Rattle.std.proofs.lemmas.Bool.{cases_lt, false≢true}
+use Rattle.std.proofs.lemmas.Grind.{common_steps}
+use Rattle.std.proofs.lemmas.List.Sums.{passes_at_first, fails_before_first}
+use Rattle.memchr.specs.Find.{IsFirstByte}
 use Rattle.mvcc_key.specs.Cutting.{pieces}
 use Rattle.mvcc_key.proofs.CuttingLaws.{pieces_some}
 use Rattle.script_run.specs.Output.{lines, without_empty_end, up_to_newline, whole_part, without_return}
@@ -57,3 +62,18 @@ unfolding without_return
 without_return-other [] b is = rw is refl
 without_return-other (x ∷ []) b is = rw is refl
 without_return-other (x ∷ y ∷ xs) b is = ap (λ l. x ∷ l) (without_return-other (y ∷ xs) b is)
+
+-- what a search for a byte answers is the place of the first that passes the test
+module _ (test : ℕ → Bool) (xs : List ℕ) where
+  pub first-position : (r : Option ℕ) → IsFirstByte test xs r → r ≡ position test xs
+  first-position None none =
+      ⊎_elim (λ inside. absurd (none (position_or_len test xs) (omega arith) inside (passes_at_first test xs 0 inside)))
+      (λ outside. grind (arith, common_steps))
+      (cases_lt (position_or_len test xs) (length xs))
+  first-position (Some k) at =
+      let high = at.0.high in
+      ⊎_elim (λ before. absurd (at.0.before (position_or_len test xs) (omega arith) before (passes_at_first test xs 0 (omega (arith, high)))))
+      (λ from. ⊎_elim (λ behind. absurd (false≢true (sym (fails_before_first test xs k 0 behind) ∙ at.1)))
+      (λ upto. let same : position_or_len test xs ≡ k = omega (arith, from, upto) in grind (arith, common_steps, same, high))
+      (cases_lt k (position_or_len test xs)))
+      (cases_lt (position_or_len test xs) k)

@@ -12,7 +12,8 @@ use Rattle.lsm_store.specs.Parts.{Part, Stage, after_batch, is_empty_part, empty
 use Rattle.read_rule.specs.Read.{get}
 use Rattle.stat_delta.specs.Moments.{stored_walls, greatest}
 use Rattle.write_rule.specs.Write.{write}
-use Rattle.mvcc_engine.specs.Step.{State, Command, Write, Age, Flush, Compact, Get, Stats, Layout, Reply, Finished, Wrote, Got, Stepped, statistics, unless_overflow, settled, parts_after, stage, read_at, change, step}
+use Rattle.intent_resolve.specs.Resolve.{resolve, resolve_range}
+use Rattle.mvcc_engine.specs.Step.{State, Command, Write, Resolve, ResolveRange, Age, Flush, Compact, Get, Stats, Layout, Reply, Finished, Wrote, WasFound, Took, Got, Stepped, statistics, unless_overflow, settled, parts_after, stage, read_at, change, step}
 use Rattle.mvcc_engine.specs.views.Seen.{Answers, AnswersAge, AnswersUnlessFull}
 use Rattle.mvcc_engine.specs.declared.refusal.Refusal.{Refusal}
 use Rattle.mvcc_engine.specs.declared.refusal.AgeFault.{AgeFault}
@@ -66,6 +67,8 @@ change-part s reply written some =
 step-part : (s : State) (c : Command) → HasPart s → IfOk (step s c) LeavesPart
 unfolding step
 step-part s (Write key request) some = change-part s Wrote (write s.history key request) some
+step-part s (Resolve key update) some = change-part s WasFound (resolve s.history key update) some
+step-part s (ResolveRange start end update max) some = change-part s Took (resolve_range s.history start end update max) some
 step-part s (Age now) some =
     then-part (unless_fault (nat_lt now s.last) (refusals.MomentTooEarly s.last) now) (λ later. settled s s.history now s.parts Finished)
     (λ later. settled-part s s.history now s.parts Finished some)

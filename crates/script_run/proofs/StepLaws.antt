@@ -6,19 +6,22 @@ use Rattle.std.proofs.Common.{refl, sym, ap, ◌∙◌, subst, append-nil, Bor}
 use Rattle.std.proofs.lemmas.Grind.{flat_map-append}
 use Rattle.lsm_store.specs.Parts.{layout}
 use Rattle.mvcc_key.specs.Steps.{◌>>=◌}
-use Rattle.mvcc_key.specs.Order.{Key}
+use Rattle.mvcc_key.specs.Order.{Timestamp, Key}
 use Rattle.mvcc_key.specs.Refusal.{Refusal}
+use Rattle.mvcc_key.specs.declared.span.Span.{Span}
 use Rattle.mvcc_value.specs.views.Seen.{found_of}
 use Rattle.mvcc_value.specs.declared.value.Found.{Found}
 use Rattle.txn_state.specs.Transaction.{Actor}
 use Rattle.write_rule.specs.Write.{WriteKind}
 use Rattle.write_rule.specs.views.Seen as rule
+use Rattle.intent_resolve.specs.views.Seen.{span_of}
 use Rattle.mvcc_engine.specs.Step as engine
-use Rattle.mvcc_engine.specs.Step.{State, Reply, Stepped, statistics, step}
+use Rattle.mvcc_engine.specs.Step.{State, Command, Reply, Stepped, statistics, step}
 use Rattle.script_line.specs.Grammar as grammar
 use Rattle.script_line.specs.Grammar.{Line, Who, parse}
 use Rattle.script_text.specs.Text as text
 use Rattle.script_text.specs.Text.{Reason, ByEngine}
+use Rattle.script_text.specs.views.Seen.{span_of as shown_span}
 use Rattle.script_line.specs.views.SeenLine.{is_blank}
 use Rattle.script_text.proofs.TextLaws.{two_pieces, Extends-same}
 use Rattle.script_run.specs.Output.{ScriptState, Carried, carried, carry_out, or_refused, perform, performed, text_of, without_return, statistics_answer, actor, write, write_command, wrote}
@@ -54,11 +57,13 @@ performed-blank s (grammar.TxnRestart name ts) blank = cc
 performed-blank s (grammar.TxnRefresh name) blank = cc
 performed-blank s (grammar.TxnIgnoreSeqs name ranges) blank = cc
 performed-blank s (grammar.TxnRemove name) blank = cc
-performed-blank s (grammar.Put key value who) blank = cc
-performed-blank s (grammar.Del key who) blank = cc
-performed-blank s (grammar.ConditionalPut key value who expected) blank = cc
-performed-blank s (grammar.InitPut key value who) blank = cc
-performed-blank s (grammar.Increment key who by) blank = cc
+performed-blank s (grammar.Put key value who local) blank = cc
+performed-blank s (grammar.Del key who local) blank = cc
+performed-blank s (grammar.ConditionalPut key value who expected local) blank = cc
+performed-blank s (grammar.InitPut key value who local) blank = cc
+performed-blank s (grammar.Increment key who by local) blank = cc
+performed-blank s (grammar.Resolve name key status ts) blank = cc
+performed-blank s (grammar.ResolveRange name start end status ts max) blank = cc
 performed-blank s (grammar.Get key ts) blank = cc
 performed-blank s (grammar.Age now) blank = cc
 performed-blank s grammar.Stats blank = cc
@@ -103,18 +108,29 @@ module _ (old new : List ℕ) (v s : ScriptState) (v_is : v ≡ s) (said : Line)
       subst (λ t. IsRefusedOr (Some (ByEngine why)) (performed t said) t (record v { engine = e }) old new) v_is
       (is_refused v (record v { engine = e }) said old new (Some (ByEngine why)) (is ∙ ap (carried v shown) denied) (ap (λ t. record v { engine = t }) same) kept)
 
--- a write, by its writer
-module _ (old new : List ℕ) (v s : ScriptState) (v_is : v ≡ s) (said : Line) (key : Key) (who : Who) (kind : WriteKind) (is : perform v said ≡ write v key who kind) where
-  -- where there is no writer it is refused
-  pub no_writer : (o : Option Reason) → Tells o (actor v.txns who) → new ≡ old → IsRefusedOr o (performed s said) s s old new
-  no_writer None told kept = Extends-same old new kept
-  no_writer (Some why) denied kept =
+-- a command of the engine that asks for what the tables have
+module _ (old new : List ℕ) (v s : ScriptState) (v_is : v ≡ s) (said : Line) {A : Type 0} (asked : Result A Reason) (command : A → Command) (shown : Reply → List text.Answer)
+    (is : perform v said ≡ (asked >>= λ a. carried v shown (step v.engine (command a)))) where
+  -- where they do not have it the command is refused
+  pub not_asked : (o : Option Reason) → Tells o asked → new ≡ old → IsRefusedOr o (performed s said) s s old new
+  not_asked None told kept = Extends-same old new kept
+  not_asked (Some why) denied kept =
       subst (λ t. IsRefusedOr (Some why) (performed t said) t t old new) v_is
-      (is_refused v v said old new (Some why) (is ∙ ap (λ r. r >>= λ a. carried v wrote (step v.engine (write_command key a kind))) denied) refl kept)
+      (is_refused v v said old new (Some why) (is ∙ ap (λ r. r >>= λ a. carried v shown (step v.engine (command a))) denied) refl kept)
 
   -- else it is a step of the engine
-  pub by_writer : (a : Actor) → actor v.txns who ≡ Ok a → perform v said ≡ carried v wrote (step v.engine (write_command key a kind))
-  by_writer a found = is ∙ ap (λ r. r >>= λ b. carried v wrote (step v.engine (write_command key b kind))) found
+  pub is_asked : (a : A) → asked ≡ Ok a → perform v said ≡ carried v shown (step v.engine (command a))
+  is_asked a found = is ∙ ap (λ r. r >>= λ b. carried v shown (step v.engine (command b))) found
+
+-- a write, by its writer
+module _ (old new : List ℕ) (v s : ScriptState) (v_is : v ≡ s) (said : Line) (key : Key) (who : Who) (kind : WriteKind) (local : Timestamp) (is : perform v said ≡ write v key who kind local) where
+  -- where there is no writer it is refused
+  pub no_writer : (o : Option Reason) → Tells o (actor v.txns who) → new ≡ old → IsRefusedOr o (performed s said) s s old new
+  no_writer = not_asked old new v s v_is said (actor v.txns who) (λ a. write_command key a kind local) wrote is
+
+  -- else it is a step of the engine
+  pub by_writer : (a : Actor) → actor v.txns who ≡ Ok a → perform v said ≡ carried v wrote (step v.engine (write_command key a kind local))
+  by_writer = is_asked old new v s v_is said (actor v.txns who) (λ a. write_command key a kind local) wrote is
 
 -- the text of a line with answers, and of the statistics behind them where they are wanted
 pub answered : (wanted : Bool) (c : Carried) (s : ScriptState) (a : text.Answer) (more : List text.Answer) (old mid new : List ℕ) → c ≡ record { state = s; answers = a ∷ more }
@@ -141,3 +157,8 @@ step-layout s = refl
 pub lent : (o : Option (Bor Found)) → option_map (λ f. found_of f.now) o ≡ option_map found_of (option_copied o)
 lent None = refl
 lent (Some f) = refl
+
+-- a span that is lent
+pub lent_span : (o : Option (Bor Span)) → option_map (λ s. shown_span s.now) o ≡ option_map span_of (option_copied o)
+lent_span None = refl
+lent_span (Some s) = refl

@@ -5,13 +5,14 @@ use Rattle.std.specs.Int.{w128, to_be_bytes}
 use Rattle.mvcc_key.specs.Lists.{is_empty}
 use Rattle.mvcc_key.specs.Steps.{◌>>=◌, unless_fault}
 use Rattle.mvcc_key.specs.Cutting.{pieces}
-use Rattle.mvcc_key.specs.Order.{Timestamp, Key, no_time}
+use Rattle.mvcc_key.specs.Order.{Timestamp, Key}
 use Rattle.mvcc_key.specs.Refusal.{Refusal}
 use Rattle.lsm_store.specs.Parts.{PartShape}
 use Rattle.txn_state.specs.Transaction.{Txn, Actor, At, In, TxnRefusal, begun, stepped, advanced, restarted, refreshed, ignoring}
 use Rattle.write_rule.specs.Write.{WriteKind, WriteAnswer, Done, WasThere, Number}
-use Rattle.mvcc_engine.specs.Step.{State, first_state, statistics, Command, Reply, Finished, Wrote, Got, Statistics, Parts, Stepped, step}
-use Rattle.script_line.specs.Grammar.{Who, AtTime, InTxn, Line, parse}
+use Rattle.intent_resolve.specs.Resolve.{TxnStatus, Update}
+use Rattle.mvcc_engine.specs.Step.{State, first_state, statistics, Command, Reply, Finished, Wrote, WasFound, Took, Got, Statistics, Parts, Stepped, step}
+use Rattle.script_line.specs.Grammar.{Who, AtTime, InTxn, Status, Line, parse}
 use Rattle.script_text.specs.Text.{Reason, BadLine, TxnExists, NoTxn, ByTxn, ByEngine, Answer, show}
 use Rattle.script_line.specs.CommandLine.{Options, Invocation, Run, invocation}
 use Rattle.script_run.specs.Named.{Named, look_up, keep, drop_name}
@@ -100,6 +101,16 @@ abbrev pub wrote : Reply → List Answer
 wrote (Wrote answer) = write_answers answer
 wrote reply = []
 
+-- how a resolution is shown
+abbrev pub resolved : Reply → List Answer
+resolved (WasFound found) = Answer.Resolved found ∷ []
+resolved reply = []
+
+-- how a resolution of a span is shown
+abbrev pub resolved_range : Reply → List Answer
+resolved_range (Took ranged) = Answer.ResolvedRange ranged.count ranged.resume ∷ []
+resolved_range reply = []
+
 -- how the statistics are shown
 abbrev pub statistics_shown : Reply → List Answer
 statistics_shown (Statistics sums now) = Answer.Statistics sums now ∷ []
@@ -126,12 +137,26 @@ carried s shown (Ok done) = Ok (record { state = record s { engine = done.state 
 carried s shown (Err why) = Err (ByEngine why)
 
 -- what the engine is asked
-abbrev pub write_command : Key → Actor → WriteKind → Command
-write_command key who kind = Command.Write key (record { who = who; kind = kind; local = no_time })
+abbrev pub write_command : Key → Actor → WriteKind → Timestamp → Command
+write_command key who kind local = Command.Write key (record { who = who; kind = kind; local = local })
 
 -- a write by its writer
-abbrev pub write : ScriptState → Key → Who → WriteKind → Result Carried Reason
-write s key who kind = actor s.txns who >>= λ a. carried s wrote (step s.engine (write_command key a kind))
+abbrev pub write : ScriptState → Key → Who → WriteKind → Timestamp → Result Carried Reason
+write s key who kind local = actor s.txns who >>= λ a. carried s wrote (step s.engine (write_command key a kind local))
+
+-- the status in the engine's terms
+abbrev pub status_of : Status → TxnStatus
+status_of Status.Committed = TxnStatus.Committed
+status_of Status.Aborted = TxnStatus.Aborted
+status_of Status.Pending = TxnStatus.Pending
+
+-- what a line says of its transaction
+abbrev pub update : Txn → Status → Option Timestamp → Update
+update t status ts = record { id = t.id; epoch = t.epoch; status = status_of status; ts = unwrap_or ts t.write_ts; ignored = t.ignored }
+
+-- what it says of the transaction of the name
+abbrev pub update_named : List (Named Txn) → List ℕ → Status → Option Timestamp → Result Update Reason
+update_named txns name status ts = txn_named txns name >>= λ t. Ok (update t status ts)
 
 -- what a line says is done
 abbrev pub perform : ScriptState → Line → Result Carried Reason
@@ -143,11 +168,13 @@ perform s (Line.TxnRestart name ts) = with_txn s name (restarted ts)
 perform s (Line.TxnRefresh name) = with_txn s name (λ t. Ok (refreshed t))
 perform s (Line.TxnIgnoreSeqs name ranges) = with_txn s name (ignoring ranges)
 perform s (Line.TxnRemove name) = remove_txn s name
-perform s (Line.Put key value who) = write s key who (WriteKind.Put value)
-perform s (Line.Del key who) = write s key who WriteKind.Delete
-perform s (Line.ConditionalPut key value who expected) = write s key who (WriteKind.ConditionalPut value expected)
-perform s (Line.InitPut key value who) = write s key who (WriteKind.InitPut value)
-perform s (Line.Increment key who by) = write s key who (WriteKind.Increment by)
+perform s (Line.Put key value who local) = write s key who (WriteKind.Put value) local
+perform s (Line.Del key who local) = write s key who WriteKind.Delete local
+perform s (Line.ConditionalPut key value who expected local) = write s key who (WriteKind.ConditionalPut value expected) local
+perform s (Line.InitPut key value who local) = write s key who (WriteKind.InitPut value) local
+perform s (Line.Increment key who by local) = write s key who (WriteKind.Increment by) local
+perform s (Line.Resolve name key status ts) = update_named s.txns name status ts >>= λ u. carried s resolved (step s.engine (Command.Resolve key u))
+perform s (Line.ResolveRange name start end status ts max) = update_named s.txns name status ts >>= λ u. carried s resolved_range (step s.engine (Command.ResolveRange start end u max))
 perform s (Line.Get key ts) = carried s (got key) (step s.engine (Command.Get key ts))
 perform s (Line.Age now) = carried s finished (step s.engine (Command.Age now))
 perform s Line.Stats = carried s statistics_shown (step s.engine Command.Stats)

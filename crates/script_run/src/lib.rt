@@ -8,6 +8,7 @@ mod script;
 mod session;
 mod stop;
 mod txns;
+mod update;
 
 pub use program::{Status, run};
 

@@ -5,6 +5,7 @@ ghost use Rattle.script_run.specs.Output.{lines, whole_part, without_return};
 ghost use Rattle.script_run.specs.Promise.{ReadsScript, TakesWithin, script_max};
 
 use io_edge::{Failed, Source};
+use memchr::memchr;
 use std::alloc::{AllocError, Global};
 
 /// The longest script, in bytes.
@@ -78,7 +79,7 @@ fn place_of_newline(script: &[u8]) -> Option<usize>
     ensures value { result ≡ position (λ byte. byte == 0x0a) script.now }
     ensures within { IfSome result (λ place. place < length script.now) }
 {
-    script.iter().position(|byte| *byte == b'\n')
+    memchr(b'\n', script)
 }
 
 /// The line without a carriage return at its end.

@@ -7,10 +7,10 @@ ghost use Rattle.lsm_store.specs.views.Seen.{seen_shape};
 ghost use Rattle.mvcc_key.specs.views.Seen.{time_of};
 ghost use Rattle.mvcc_value.specs.views.Seen.{plain_body};
 ghost use Rattle.script_line.specs.Grammar as grammar;
-ghost use Rattle.script_line.specs.Grammar.{Age, Compact, ConditionalPut, Del, Flush, Get, Increment, InitPut, Layout, Put, Stats, TxnBegin, TxnRemove};
+ghost use Rattle.script_line.specs.Grammar.{Age, Compact, ConditionalPut, Del, Flush, Get, Increment, InitPut, Layout, Put, Resolve, ResolveRange, Stats, TxnBegin, TxnRemove};
 ghost use Rattle.script_text.specs.Text.{show};
 ghost use Rattle.script_text.specs.views.Appending.{Extends};
-ghost use Rattle.script_line.specs.views.SeenLine.{body_of, is_blank, line_of, who_of};
+ghost use Rattle.script_line.specs.views.SeenLine.{body_of, is_blank, line_of, status_of, who_of};
 ghost use Rattle.script_run.specs.Output.{carry_out, first_script_state, layout_answers, perform, performed, statistics_answer, text_of, with_txn};
 ghost use Rattle.script_run.specs.views.Answered.{Carries, IsAnswered, TellsRefusal};
 ghost use Rattle.script_run.specs.views.Changed.{rule_of};
@@ -23,7 +23,7 @@ use crate::txns::Txns;
 use mvcc_engine::{Engine, PartShape};
 use mvcc_key::{Looks, OutOfMemory, Timestamp};
 use mvcc_value::PlainValue;
-use script_line::{Line, Options, Value, Who, parse_line};
+use script_line::{Line, Options, Status, Value, Who, parse_line};
 use script_text::{Answer, Reason, show};
 use script_words::LineFault;
 use std::alloc::Global;
@@ -186,15 +186,21 @@ impl Session {
                 self.change_txn(name, TxnChange::IgnoreSeqs(ranges.as_slice()), text)
             }
             Line::TxnRemove { name } => self.remove_txn(name, text),
-            Line::Put { key, value, who } => {
-                self.put(key.as_slice(), value.as_plain(), *who, text, looks)
+            Line::Put {
+                key,
+                value,
+                who,
+                local,
+            } => self.put(key.as_slice(), value.as_plain(), *who, *local, text, looks),
+            Line::Del { key, who, local } => {
+                self.delete(key.as_slice(), *who, *local, text, looks)
             }
-            Line::Del { key, who } => self.delete(key.as_slice(), *who, text, looks),
             Line::ConditionalPut {
                 key,
                 value,
                 who,
                 expected,
+                local,
             } => {
                 let expected = as_plain(expected.as_ref());
                 self.conditional_put(
@@ -202,15 +208,39 @@ impl Session {
                     value.as_plain(),
                     *who,
                     expected,
+                    *local,
                     text,
                     looks,
                 )
             }
-            Line::InitPut { key, value, who } => {
-                self.init_put(key.as_slice(), value.as_plain(), *who, text, looks)
-            }
-            Line::Increment { key, who, by } => {
-                self.increment(key.as_slice(), *who, *by, text, looks)
+            Line::InitPut {
+                key,
+                value,
+                who,
+                local,
+            } => self.init_put(key.as_slice(), value.as_plain(), *who, *local, text, looks),
+            Line::Increment {
+                key,
+                who,
+                by,
+                local,
+            } => self.increment(key.as_slice(), *who, *by, *local, text, looks),
+            Line::Resolve {
+                name,
+                key,
+                status,
+                ts,
+            } => self.resolve(name, key.as_slice(), *status, *ts, text, looks),
+            Line::ResolveRange {
+                name,
+                start,
+                end,
+                status,
+                ts,
+                max,
+            } => {
+                let (start, end) = (start.as_slice(), end.as_slice());
+                self.resolve_range(name, start, end, *status, *ts, *max, text)
             }
             Line::Get { key, ts } => self.get(key.as_slice(), *ts, text),
             Line::Age { now } => self.age(now.nanos, text),
@@ -278,13 +308,14 @@ impl Session {
         key: &[u8],
         value: PlainValue<'_>,
         who: Who<'_>,
+        local: Timestamp,
         text: &mut Vec<u8>,
         looks: &mut Looks<L>,
     ) -> Result<(), CommandStop>
-        ensures { Carries result (performed self.old (Put key.now (plain_body value.entry) (who_of who.entry))) self.old self.new text.old.items text.new.items }
+        ensures { Carries result (performed self.old (Put key.now (plain_body value.entry) (who_of who.entry) (time_of local))) self.old self.new text.old.items text.new.items }
     {
         let writer = self.txns.actor(who)?;
-        self.engine.put(writer, key, value, Timestamp::NONE, looks)?;
+        self.engine.put(writer, key, value, local, looks)?;
         show(self.alloc, &Answer::Accepted, text)?;
         Ok(())
     }
@@ -293,13 +324,14 @@ impl Session {
         &mut self,
         key: &[u8],
         who: Who<'_>,
+        local: Timestamp,
         text: &mut Vec<u8>,
         looks: &mut Looks<L>,
     ) -> Result<(), CommandStop>
-        ensures { Carries result (performed self.old (Del key.now (who_of who.entry))) self.old self.new text.old.items text.new.items }
+        ensures { Carries result (performed self.old (Del key.now (who_of who.entry) (time_of local))) self.old self.new text.old.items text.new.items }
     {
         let writer = self.txns.actor(who)?;
-        let found = self.engine.delete(writer, key, Timestamp::NONE, looks)?;
+        let found = self.engine.delete(writer, key, local, looks)?;
         show(self.alloc, &Answer::Deleted { found }, text)?;
         Ok(())
     }
@@ -310,14 +342,15 @@ impl Session {
         value: PlainValue<'_>,
         who: Who<'_>,
         expected: Option<PlainValue<'_>>,
+        local: Timestamp,
         text: &mut Vec<u8>,
         looks: &mut Looks<L>,
     ) -> Result<(), CommandStop>
-        ensures { Carries result (performed self.old (ConditionalPut key.now (plain_body value.entry) (who_of who.entry) (option_map plain_body expected.entry))) self.old self.new text.old.items text.new.items }
+        ensures { Carries result (performed self.old (ConditionalPut key.now (plain_body value.entry) (who_of who.entry) (option_map plain_body expected.entry) (time_of local))) self.old self.new text.old.items text.new.items }
     {
         let writer = self.txns.actor(who)?;
         self.engine
-            .conditional_put(writer, key, value, expected, Timestamp::NONE, looks)?;
+            .conditional_put(writer, key, value, expected, local, looks)?;
         show(self.alloc, &Answer::Accepted, text)?;
         Ok(())
     }
@@ -327,14 +360,14 @@ impl Session {
         key: &[u8],
         value: PlainValue<'_>,
         who: Who<'_>,
+        local: Timestamp,
         text: &mut Vec<u8>,
         looks: &mut Looks<L>,
     ) -> Result<(), CommandStop>
-        ensures { Carries result (performed self.old (InitPut key.now (plain_body value.entry) (who_of who.entry))) self.old self.new text.old.items text.new.items }
+        ensures { Carries result (performed self.old (InitPut key.now (plain_body value.entry) (who_of who.entry) (time_of local))) self.old self.new text.old.items text.new.items }
     {
         let writer = self.txns.actor(who)?;
-        self.engine
-            .init_put(writer, key, value, Timestamp::NONE, looks)?;
+        self.engine.init_put(writer, key, value, local, looks)?;
         show(self.alloc, &Answer::Accepted, text)?;
         Ok(())
     }
@@ -344,16 +377,54 @@ impl Session {
         key: &[u8],
         who: Who<'_>,
         by: i64,
+        local: Timestamp,
         text: &mut Vec<u8>,
         looks: &mut Looks<L>,
     ) -> Result<(), CommandStop>
-        ensures { Carries result (performed self.old (Increment key.now (who_of who.entry) by)) self.old self.new text.old.items text.new.items }
+        ensures { Carries result (performed self.old (Increment key.now (who_of who.entry) by (time_of local))) self.old self.new text.old.items text.new.items }
     {
         let writer = self.txns.actor(who)?;
-        let number = self
-            .engine
-            .increment(writer, key, by, Timestamp::NONE, looks)?;
+        let number = self.engine.increment(writer, key, by, local, looks)?;
         show(self.alloc, &Answer::Incremented(number), text)?;
+        Ok(())
+    }
+
+    fn resolve<L: Ledger>(
+        &mut self,
+        name: &str,
+        key: &[u8],
+        status: Status,
+        ts: Option<Timestamp>,
+        text: &mut Vec<u8>,
+        looks: &mut Looks<L>,
+    ) -> Result<(), CommandStop>
+        ensures { Carries result (performed self.old (Resolve name.now key.now (status_of status) (option_map time_of ts))) self.old self.new text.old.items text.new.items }
+    {
+        let update = self.txns.update(self.alloc, name, status, ts)?;
+        let found = self.engine.resolve(key, &update, looks)?;
+        show(self.alloc, &Answer::Resolved { found }, text)?;
+        Ok(())
+    }
+
+    fn resolve_range(
+        &mut self,
+        name: &str,
+        start: &[u8],
+        end: &[u8],
+        status: Status,
+        ts: Option<Timestamp>,
+        max: Option<u64>,
+        text: &mut Vec<u8>,
+    ) -> Result<(), CommandStop>
+        ensures { Carries result (performed self.old (ResolveRange name.now start.now end.now (status_of status) (option_map time_of ts) max)) self.old self.new text.old.items text.new.items }
+    {
+        let update = self.txns.update(self.alloc, name, status, ts)?;
+        let ranged = self.engine.resolve_range(start, end, &update, max)?;
+        let answer = Answer::ResolvedRange {
+            count: ranged.count,
+            resume: ranged.resume.as_ref(),
+        };
+        show(self.alloc, &answer, text)?;
         Ok(())
     }
 

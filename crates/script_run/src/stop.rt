@@ -114,6 +114,7 @@ fn refusal_of(why: &Refusal) -> Result<script_text::Refusal<'_>, OutOfMemory>
         Refusal::KeyTooLong(length) => script_text::Refusal::KeyTooLong(*length),
         Refusal::ValueTooLong(length) => script_text::Refusal::ValueTooLong(*length),
         Refusal::BadTimestamp => script_text::Refusal::BadTimestamp,
+        Refusal::BadSpan => script_text::Refusal::BadSpan,
         Refusal::Conflict(intents) => script_text::Refusal::Conflict(intents.as_slice()),
         Refusal::EpochFault(own, other) => script_text::Refusal::EpochFault(*own, *other),
         Refusal::ReplayMissing(sequence) => script_text::Refusal::ReplayMissing(*sequence),
@@ -123,6 +124,7 @@ fn refusal_of(why: &Refusal) -> Result<script_text::Refusal<'_>, OutOfMemory>
         Refusal::NotInteger(actual) => script_text::Refusal::NotInteger(actual),
         Refusal::IntegerOverflow(old, by) => script_text::Refusal::IntegerOverflow(*old, *by),
         Refusal::IntentTooLong(length) => script_text::Refusal::IntentTooLong(*length),
+        Refusal::CommitBelowIntent(ts) => script_text::Refusal::CommitBelowIntent(*ts),
         Refusal::MomentTooEarly(latest) => script_text::Refusal::MomentTooEarly(*latest),
         Refusal::CountOverflow(field) => script_text::Refusal::CountOverflow(*field),
     };

@@ -319,3 +319,73 @@ fn transactions_write_intents(rt: HostRuntime) -> Result<(), Fail> {
     }
     Ok(())
 }
+
+#[test]
+fn resolutions_settle_intents(rt: HostRuntime) -> Result<(), Fail> {
+    let cases: [(&str, &[u8], &[u8]); 8] = [
+        (
+            "run",
+            b"txn_begin t=A ts=2\nput t=A k=a v=abc\ntxn_step t=A\nput t=A k=a v=de\nresolve t=A k=a status=committed ts=1\nresolve t=A k=a status=committed ts=4\nstats\nget k=a ts=4\nget k=a ts=3\nresolve t=A k=a status=committed ts=4\n",
+            b"txn: \"A\" id=00000000-0000-0000-0000-000000000001 epoch=0 seq=0 read=2.000000000,0 write=2.000000000,0 limit=0.000000000,0 ignored=none\nok\ntxn: \"A\" id=00000000-0000-0000-0000-000000000001 epoch=0 seq=1 read=2.000000000,0 write=2.000000000,0 limit=0.000000000,0 ignored=none\nok\nerror: CommitBelowIntent ts=2.000000000,0\nresolve: found=true\nstats: key_count=1 key_bytes=14 val_count=1 val_bytes=24 live_count=1 live_bytes=38 intent_count=0 intent_bytes=0 intent_age=0 gc_bytes_age=0 range_key_count=0 range_key_bytes=0 range_val_count=0 range_val_bytes=0 last_update_nanos=4000000000\nget: \"a\" -> /BYTES/de @4.000000000,0\nget: \"a\" -> <no data>\nresolve: found=false\n",
+        ),
+        (
+            "run",
+            b"txn_begin t=A ts=2\nput t=A k=a v=abc\ntxn_step t=A\nput t=A k=a v=de\ntxn_ignore_seqs t=A seqs=1-1\nresolve t=A k=a status=pending ts=2\nstats\ntxn_ignore_seqs t=A seqs=0-1\nresolve t=A k=a status=pending ts=2\nstats\ntxn_ignore_seqs t=A seqs=3-2\n",
+            b"txn: \"A\" id=00000000-0000-0000-0000-000000000001 epoch=0 seq=0 read=2.000000000,0 write=2.000000000,0 limit=0.000000000,0 ignored=none\nok\ntxn: \"A\" id=00000000-0000-0000-0000-000000000001 epoch=0 seq=1 read=2.000000000,0 write=2.000000000,0 limit=0.000000000,0 ignored=none\nok\ntxn: \"A\" id=00000000-0000-0000-0000-000000000001 epoch=0 seq=1 read=2.000000000,0 write=2.000000000,0 limit=0.000000000,0 ignored=1-1\nresolve: found=true\nstats: key_count=1 key_bytes=14 val_count=1 val_bytes=53 live_count=1 live_bytes=67 intent_count=1 intent_bytes=20 intent_age=0 gc_bytes_age=0 range_key_count=0 range_key_bytes=0 range_val_count=0 range_val_bytes=0 last_update_nanos=2000000000\ntxn: \"A\" id=00000000-0000-0000-0000-000000000001 epoch=0 seq=1 read=2.000000000,0 write=2.000000000,0 limit=0.000000000,0 ignored=0-1\nresolve: found=true\nstats: key_count=0 key_bytes=0 val_count=0 val_bytes=0 live_count=0 live_bytes=0 intent_count=0 intent_bytes=0 intent_age=0 gc_bytes_age=0 range_key_count=0 range_key_bytes=0 range_val_count=0 range_val_bytes=0 last_update_nanos=2000000000\nerror: BadRanges\n",
+        ),
+        (
+            "run",
+            b"put k=a ts=5 v=abc local=2\nstats\n",
+            b"ok\nstats: key_count=1 key_bytes=14 val_count=1 val_bytes=25 live_count=1 live_bytes=39 intent_count=0 intent_bytes=0 intent_age=0 gc_bytes_age=0 range_key_count=0 range_key_bytes=0 range_val_count=0 range_val_bytes=0 last_update_nanos=5000000000\n",
+        ),
+        (
+            "run",
+            b"put k=a ts=5 v=abc local=5\nstats\n",
+            b"ok\nstats: key_count=1 key_bytes=14 val_count=1 val_bytes=8 live_count=1 live_bytes=22 intent_count=0 intent_bytes=0 intent_age=0 gc_bytes_age=0 range_key_count=0 range_key_bytes=0 range_val_count=0 range_val_bytes=0 last_update_nanos=5000000000\n",
+        ),
+        (
+            "run --stats --count-max=100",
+            b"put k=a ts=1 v=abc\ntxn_begin t=A ts=2\nput t=A k=a v=abc\nresolve t=A k=a status=committed ts=10\n",
+            b"ok\nstats: key_count=1 key_bytes=14 val_count=1 val_bytes=8 live_count=1 live_bytes=22 intent_count=0 intent_bytes=0 intent_age=0 gc_bytes_age=0 range_key_count=0 range_key_bytes=0 range_val_count=0 range_val_bytes=0 last_update_nanos=1000000000\ntxn: \"A\" id=00000000-0000-0000-0000-000000000001 epoch=0 seq=0 read=2.000000000,0 write=2.000000000,0 limit=0.000000000,0 ignored=none\nstats: key_count=1 key_bytes=14 val_count=1 val_bytes=8 live_count=1 live_bytes=22 intent_count=0 intent_bytes=0 intent_age=0 gc_bytes_age=0 range_key_count=0 range_key_bytes=0 range_val_count=0 range_val_bytes=0 last_update_nanos=1000000000\nok\nstats: key_count=1 key_bytes=26 val_count=2 val_bytes=61 live_count=1 live_bytes=67 intent_count=1 intent_bytes=20 intent_age=0 gc_bytes_age=0 range_key_count=0 range_key_bytes=0 range_val_count=0 range_val_bytes=0 last_update_nanos=2000000000\nresolve: found=true\nstats: key_count=1 key_bytes=26 val_count=2 val_bytes=33 live_count=1 live_bytes=39 intent_count=0 intent_bytes=0 intent_age=0 gc_bytes_age=0 range_key_count=0 range_key_bytes=0 range_val_count=0 range_val_bytes=0 last_update_nanos=10000000000\n",
+        ),
+        (
+            "run",
+            b"txn_begin t=A ts=2\nput t=A k=a v=abc\ntxn_restart t=A\nput t=A k=a v=de\ntxn_begin t=B ts=2 id=00000000-0000-0000-0000-000000000001\nresolve t=B k=a status=committed\nstats\nget k=a ts=9\n",
+            b"txn: \"A\" id=00000000-0000-0000-0000-000000000001 epoch=0 seq=0 read=2.000000000,0 write=2.000000000,0 limit=0.000000000,0 ignored=none\nok\ntxn: \"A\" id=00000000-0000-0000-0000-000000000001 epoch=1 seq=0 read=2.000000000,0 write=2.000000000,0 limit=0.000000000,0 ignored=none\nok\ntxn: \"B\" id=00000000-0000-0000-0000-000000000001 epoch=0 seq=0 read=2.000000000,0 write=2.000000000,0 limit=0.000000000,0 ignored=none\nresolve: found=true\nstats: key_count=0 key_bytes=0 val_count=0 val_bytes=0 live_count=0 live_bytes=0 intent_count=0 intent_bytes=0 intent_age=0 gc_bytes_age=0 range_key_count=0 range_key_bytes=0 range_val_count=0 range_val_bytes=0 last_update_nanos=2000000000\nget: \"a\" -> <no data>\n",
+        ),
+        (
+            "run",
+            b"resolve t=A k=a status=committed\nresolve_range t=A k=b end=a status=aborted\ntxn_begin t=A ts=2\nresolve t=A k= status=aborted\nput k=a ts=1 v=x\nput t=A k=a v=y\ntxn_begin t=B ts=3\nresolve t=B k=a status=aborted\nresolve t=A k=a status=done\nresolve t=A k=a status=ABORTED\nget k=a ts=9\nstats\n",
+            b"error: NoTxn\nerror: NoTxn\ntxn: \"A\" id=00000000-0000-0000-0000-000000000001 epoch=0 seq=0 read=2.000000000,0 write=2.000000000,0 limit=0.000000000,0 ignored=none\nresolve: found=false\nok\nok\ntxn: \"B\" id=00000000-0000-0000-0000-000000000002 epoch=0 seq=0 read=3.000000000,0 write=3.000000000,0 limit=0.000000000,0 ignored=none\nresolve: found=false\nerror: BadLine line=9\nresolve: found=true\nget: \"a\" -> /BYTES/x @1.000000000,0\nstats: key_count=1 key_bytes=14 val_count=1 val_bytes=6 live_count=1 live_bytes=20 intent_count=0 intent_bytes=0 intent_age=0 gc_bytes_age=0 range_key_count=0 range_key_bytes=0 range_val_count=0 range_val_bytes=0 last_update_nanos=2000000000\n",
+        ),
+        (
+            "run",
+            b"txn_begin t=A ts=2\nput t=A k=a v=abc\nresolve t=A k=a status=pending ts=5\nget k=a ts=4\nget k=a ts=5\nstats\nresolve t=A k=a status=pending ts=3\nresolve t=A k=a status=committed\ntxn_advance t=A ts=5\nresolve t=A k=a status=committed\nget k=a ts=5\n",
+            b"txn: \"A\" id=00000000-0000-0000-0000-000000000001 epoch=0 seq=0 read=2.000000000,0 write=2.000000000,0 limit=0.000000000,0 ignored=none\nok\nresolve: found=true\nget: \"a\" -> <no data>\nerror: Conflict \"a\"/00000000-0000-0000-0000-000000000001@5.000000000,0\nstats: key_count=1 key_bytes=14 val_count=1 val_bytes=70 live_count=1 live_bytes=84 intent_count=1 intent_bytes=37 intent_age=0 gc_bytes_age=0 range_key_count=0 range_key_bytes=0 range_val_count=0 range_val_bytes=0 last_update_nanos=5000000000\nresolve: found=true\nerror: CommitBelowIntent ts=5.000000000,0\ntxn: \"A\" id=00000000-0000-0000-0000-000000000001 epoch=0 seq=0 read=2.000000000,0 write=5.000000000,0 limit=0.000000000,0 ignored=none\nresolve: found=true\nget: \"a\" -> /BYTES/abc @5.000000000,0\n",
+        ),
+    ];
+    for (line, script, answers) in cases {
+        assert_answers(&rt, rt.alloc(), line, script, 100, answers)?;
+    }
+    Ok(())
+}
+
+#[test]
+fn a_span_is_resolved_up_to_the_most(rt: HostRuntime) -> Result<(), Fail> {
+    let cases: [(&str, &[u8], &[u8]); 2] = [
+        (
+            "run",
+            b"txn_begin t=A ts=2\nput t=A k=a v=abc\nput t=A k=c v=abc\nresolve_range t=A k=a end=z status=aborted max=1\nstats\n",
+            b"txn: \"A\" id=00000000-0000-0000-0000-000000000001 epoch=0 seq=0 read=2.000000000,0 write=2.000000000,0 limit=0.000000000,0 ignored=none\nok\nok\nresolve_range: resolved=1\nresume: \"c\"-\"z\"\nstats: key_count=1 key_bytes=14 val_count=1 val_bytes=53 live_count=1 live_bytes=67 intent_count=1 intent_bytes=20 intent_age=0 gc_bytes_age=0 range_key_count=0 range_key_bytes=0 range_val_count=0 range_val_bytes=0 last_update_nanos=2000000000\n",
+        ),
+        (
+            "run",
+            b"txn_begin t=A ts=2\nput t=A k=a v=x\nput t=A k=b v=y\ntxn_begin t=B ts=3\nput t=B k=aa v=z\nresolve_range t=A k=b end=b status=committed\nresolve_range t=A k=a end=c status=committed max=0\nresolve_range t=A k=a end=c status=committed ts=1\nresolve_range t=A k=a end=c status=committed max=2\nget k=b ts=2\nget k=aa ts=3\nresolve_range t=A k=a end=c status=committed\n",
+            b"txn: \"A\" id=00000000-0000-0000-0000-000000000001 epoch=0 seq=0 read=2.000000000,0 write=2.000000000,0 limit=0.000000000,0 ignored=none\nok\nok\ntxn: \"B\" id=00000000-0000-0000-0000-000000000002 epoch=0 seq=0 read=3.000000000,0 write=3.000000000,0 limit=0.000000000,0 ignored=none\nok\nerror: BadSpan\nresolve_range: resolved=0\nresume: \"a\"-\"c\"\nerror: CommitBelowIntent ts=2.000000000,0\nresolve_range: resolved=2\nget: \"b\" -> /BYTES/y @2.000000000,0\nerror: Conflict \"aa\"/00000000-0000-0000-0000-000000000002@3.000000000,0\nresolve_range: resolved=0\n",
+        ),
+    ];
+    for (line, script, answers) in cases {
+        assert_answers(&rt, rt.alloc(), line, script, 100, answers)?;
+    }
+    Ok(())
+}

@@ -1,18 +1,22 @@
 //! The transactions of a script, by their names.
 ghost use Rattle.std.specs.Prelude.{◌≡◌, [], MatchResult, OnOk, OnErr, Ok, is_some};
-ghost use Rattle.std.specs.Option.{option_copied, option_copied_mut};
+ghost use Rattle.std.specs.Option.{option_copied, option_copied_mut, option_map};
 ghost use Rattle.std.specs.Borrow.{sem};
+ghost use Rattle.mvcc_key.specs.views.Seen.{time_of};
 ghost use Rattle.txn_state.specs.views.Seen.{actor_of};
-ghost use Rattle.script_line.specs.views.SeenLine.{who_of};
+ghost use Rattle.intent_resolve.specs.views.Seen.{update_of};
+ghost use Rattle.script_line.specs.views.SeenLine.{status_of, who_of};
 ghost use Rattle.script_run.specs.Named.{drop_name, keep, look_up};
-ghost use Rattle.script_run.specs.Output.{actor};
+ghost use Rattle.script_run.specs.Output.{actor, update_named};
 ghost use Rattle.script_run.specs.views.Lending.{LendsNamed};
 ghost use Rattle.script_run.specs.views.Told.{Tells, told_by};
 
 use crate::stop::CommandStop;
+use crate::update::update_by;
 use indexmap::IndexMap;
-use mvcc_key::OutOfMemory;
-use script_line::Who;
+use intent_resolve::Update;
+use mvcc_key::{OutOfMemory, Timestamp};
+use script_line::{Status, Who};
 use std::alloc::Global;
 use std::marker::Model;
 use txn_state::{Actor, Txn};
@@ -82,6 +86,24 @@ impl Txns {
         ensures without { self.new ≡ drop_name name.now self.old }
     {
         self.kept.shift_remove(name).is_some()
+    }
+
+    /// What a line says of the transaction of the name: its status, and a timestamp, in place of which its write timestamp may stand.
+    /// [`CommandStop::NoTxn`] comes exactly where the name stands for no transaction.
+    pub fn update(
+        &self,
+        alloc: Global,
+        name: &str,
+        status: Status,
+        ts: Option<Timestamp>,
+    ) -> Result<Update, CommandStop>
+        ensures { MatchResult result (λ u. update_named self.now name.now (status_of status) (option_map time_of ts) ≡ Ok (update_of u))
+            (λ stop. Tells (told_by stop) (update_named self.now name.now (status_of status) (option_map time_of ts))) }
+    {
+        match self.find(name) {
+            Some(txn) => Ok(update_by(alloc, txn, status, ts)?),
+            None => Err(CommandStop::NoTxn),
+        }
     }
 
     /// Who writes. [`CommandStop::NoTxn`] comes exactly where the name stands for no transaction.

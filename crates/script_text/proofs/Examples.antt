@@ -9,11 +9,11 @@ use Rattle.txn_state.specs.Transaction.{SequenceLimit, EpochLimit, BadRanges}
 use Rattle.uuid.specs.Text.{by_index}
 use Rattle.script_text.specs.Statistics.{field_text, statistics_line}
 use Rattle.script_text.specs.Text as shown
-use Rattle.script_text.specs.Text.{BadLine, TxnExists, NoTxn, ByTxn, ByEngine, Accepted, TxnLine, Got, Deleted, Incremented, Statistics, LayoutLine, Refused, escaped_byte, quoted, next_range, txn_name, txn_numbers, txn_times, txn_line, increment_line, get_line, conflict_text, actual, refusal, txn_refusal, reason, yes_or_no, part_name, layout_line, show}
+use Rattle.script_text.specs.Text.{BadLine, TxnExists, NoTxn, ByTxn, ByEngine, Accepted, TxnLine, Got, Deleted, Incremented, Resolved, ResolvedRange, Statistics, LayoutLine, Refused, escaped_byte, quoted, next_range, txn_name, txn_numbers, txn_times, txn_line, increment_line, resume_line, resolved_lines, get_line, conflict_text, actual, refusal, txn_refusal, reason, yes_or_no, part_name, layout_line, show}
 
 -- what an example unfolds
 unfoldable pub on_texts : ⊤
-unfolding digits by_index escaped_byte quoted shown.time shown.value shown.id shown.range next_range shown.ranges txn_name txn_numbers txn_times txn_line increment_line get_line conflict_text actual refusal txn_refusal reason yes_or_no part_name layout_line field_text statistics_line show
+unfolding digits by_index escaped_byte quoted shown.time shown.value shown.id shown.range next_range shown.ranges txn_name txn_numbers txn_times txn_line increment_line resume_line resolved_lines get_line conflict_text actual refusal txn_refusal reason yes_or_no part_name layout_line field_text statistics_line show
 on_texts = tt
 
 -- what is written at a second
@@ -61,6 +61,17 @@ written_answers : map show (Accepted ∷ Got (codes "a") None ∷ Got (codes "a"
     ∷ codes "part 1: run keys=3 clears=0 ranges=no\n" ∷ []
 unfolding on_texts
 written_answers = refl
+
+-- resolutions, and what is left of a span
+written_resolutions : map show (Resolved true ∷ Resolved false ∷ ResolvedRange 0 None ∷ ResolvedRange 12 (Some (record { start = codes "c"; end = codes "z\"" })) ∷ ResolvedRange 1 (Some (record { start = []; end = codes "c" ++ 0x00 ∷ [] })) ∷ [])
+    ≡ codes "resolve: found=true\n" ∷ codes "resolve: found=false\n" ∷ codes "resolve_range: resolved=0\n" ∷ codes "resolve_range: resolved=12\nresume: \"c\"-\"z\\x22\"\n" ∷ codes "resolve_range: resolved=1\nresume: \"\"-\"c\\x00\"\n" ∷ []
+unfolding on_texts
+written_resolutions = refl
+
+written_refusals_of_resolutions : map (λ r. show (Refused (ByEngine r))) (refusals.BadSpan ∷ refusals.CommitBelowIntent (record { wall = 2500000000; logical = 3 }) ∷ [])
+    ≡ codes "error: BadSpan\n" ∷ codes "error: CommitBelowIntent ts=2.500000000,3\n" ∷ []
+unfolding on_texts
+written_refusals_of_resolutions = refl
 
 written_statistics : show (Statistics (record { key_count = 1; key_bytes = 2; val_count = 3; val_bytes = 4; live_count = 5; live_bytes = 6; intent_count = 7; intent_bytes = 8; intent_age = 9; gc_bytes_age = 10; range_key_count = 11; range_key_bytes = 12; range_val_count = 13; range_val_bytes = 14 }) 1500000000)
     ≡ codes "stats: key_count=1 key_bytes=2 val_count=3 val_bytes=4 live_count=5 live_bytes=6 intent_count=7 intent_bytes=8 intent_age=9 gc_bytes_age=10 range_key_count=11 range_key_bytes=12 range_val_count=13 range_val_bytes=14 last_update_nanos=1500000000\n"

@@ -4,8 +4,9 @@ use Rattle.std.specs.List.{flat_map}
 use Rattle.std.specs.Char.{digit_char}
 use Rattle.std.specs.Fmt.{decimal, signed_decimal}
 use Rattle.mvcc_key.specs.Order.{Timestamp, Key}
+use Rattle.mvcc_key.specs.Spans.{Span}
 use Rattle.mvcc_key.specs.History.{Body, Deletion, Bytes, Int, SeqRange}
-use Rattle.mvcc_key.specs.Refusal.{IntentSeen, Refusal, EmptyKey, KeyTooLong, ValueTooLong, BadTimestamp, Conflict, EpochFault, ReplayMissing, ReplayMismatch, TooOld, ConditionFailed, NotInteger, IntegerOverflow, IntentTooLong, MomentTooEarly, CountOverflow}
+use Rattle.mvcc_key.specs.Refusal.{IntentSeen, Refusal, EmptyKey, KeyTooLong, ValueTooLong, BadTimestamp, BadSpan, Conflict, EpochFault, ReplayMissing, ReplayMismatch, TooOld, ConditionFailed, NotInteger, IntegerOverflow, IntentTooLong, CommitBelowIntent, MomentTooEarly, CountOverflow}
 use Rattle.mvcc_value.specs.Found.{Found}
 use Rattle.txn_state.specs.Transaction.{Txn, TxnRefusal, SequenceLimit, EpochLimit, BadRanges}
 use Rattle.stat_core.specs.ComputeStats.{Sums}
@@ -28,6 +29,8 @@ pub data Answer : Type 0 where
   Got : (key : Key) (found : Option Found) → Answer
   Deleted : (found : Bool) → Answer
   Incremented : (number : ℤ) → Answer
+  Resolved : (found : Bool) → Answer
+  ResolvedRange : (count : ℕ) (resume : Option Span) → Answer
   Statistics : (sums : Sums) (now : ℕ) → Answer
   LayoutLine : (index keys clears : ℕ) (ranges : Bool) → Answer
   Refused : (why : Reason) → Answer
@@ -109,6 +112,15 @@ txn_line name t = txn_name name ++ txn_numbers t ++ txn_times t ++ codes " ignor
 unfoldable pub increment_line : ℤ → List ℕ
 increment_line number = codes "increment: " ++ signed_decimal number ++ codes "\n"
 
+-- what is left of a span, where something is
+unfoldable pub resume_line : Option Span → List ℕ
+resume_line None = []
+resume_line (Some s) = codes "resume: " ++ quoted s.start ++ codes "-" ++ quoted s.end ++ codes "\n"
+
+-- how many intents of a span are resolved, and what is left of it
+unfoldable pub resolved_lines : ℕ → Option Span → List ℕ
+resolved_lines count resume = codes "resolve_range: resolved=" ++ decimal count ++ codes "\n" ++ resume_line resume
+
 -- what a read of a key shows
 unfoldable pub get_line : Key → Option Found → List ℕ
 get_line key None = codes "get: " ++ quoted key ++ codes " -> <no data>\n"
@@ -129,6 +141,7 @@ refusal EmptyKey = codes "EmptyKey"
 refusal (KeyTooLong length) = codes "KeyTooLong length=" ++ decimal length
 refusal (ValueTooLong length) = codes "ValueTooLong length=" ++ decimal length
 refusal BadTimestamp = codes "BadTimestamp"
+refusal BadSpan = codes "BadSpan"
 refusal (Conflict intents) = codes "Conflict" ++ flat_map conflict_text intents
 refusal (EpochFault own other) = (codes "EpochFault own=" ++ decimal own) ++ (codes " intent=" ++ decimal other)
 refusal (ReplayMissing sequence) = codes "ReplayMissing sequence=" ++ decimal sequence
@@ -138,6 +151,7 @@ refusal (ConditionFailed found) = codes "ConditionFailed actual=" ++ actual foun
 refusal (NotInteger found) = codes "NotInteger actual=" ++ value found
 refusal (IntegerOverflow old by) = (codes "IntegerOverflow old=" ++ signed_decimal old) ++ (codes " by=" ++ signed_decimal by)
 refusal (IntentTooLong length) = codes "IntentTooLong length=" ++ decimal length
+refusal (CommitBelowIntent ts) = codes "CommitBelowIntent ts=" ++ time ts
 refusal (MomentTooEarly latest) = codes "MomentTooEarly latest=" ++ decimal latest
 refusal (CountOverflow field) = codes "CountOverflow field=" ++ field_name field
 refusal other = []
@@ -184,6 +198,8 @@ show (TxnLine name txn) = txn_line name txn
 show (Got key found) = get_line key found
 show (Deleted found) = codes "del: found=" ++ truth found ++ codes "\n"
 show (Incremented number) = increment_line number
+show (Resolved found) = codes "resolve: found=" ++ truth found ++ codes "\n"
+show (ResolvedRange count resume) = resolved_lines count resume
 show (Statistics sums now) = statistics_line sums now
 show (LayoutLine index keys clears ranges) = layout_line index keys clears ranges
 show (Refused why) = codes "error: " ++ reason why ++ codes "\n"

@@ -6,7 +6,7 @@ ghost use Rattle.script_text.specs.Text.{Got};
 ghost use Rattle.script_text.specs.views.Seen.{answer_of};
 
 use intent_meta::IntentSeen;
-use mvcc_key::Timestamp;
+use mvcc_key::{Span, Timestamp};
 use mvcc_value::{Found, OwnedValue};
 use stat_core::{Field, Stats};
 use txn_state::Txn;
@@ -22,6 +22,8 @@ pub enum Refusal<'a> {
     ValueTooLong(u64),
     /// The timestamp is none.
     BadTimestamp,
+    /// The bounds are no span, or one of them is too long.
+    BadSpan,
     /// These intents of other transactions are in the way.
     Conflict(&'a [IntentSeen]),
     /// The transaction's own intent is of a later epoch: the transaction's epoch, and the intent's.
@@ -40,6 +42,8 @@ pub enum Refusal<'a> {
     IntegerOverflow(i64, i64),
     /// The record of the new intent would have this many bytes, more than it may have.
     IntentTooLong(u64),
+    /// The transaction commits below its intent, which is at this timestamp.
+    CommitBelowIntent(Timestamp),
     /// Statistics are of this wall time already, in nanoseconds.
     MomentTooEarly(u64),
     /// This statistic would pass its bound, and none before it.
@@ -91,6 +95,16 @@ pub enum Answer<'a> {
     },
     /// The number that is there after an increment.
     Incremented(i64),
+    Resolved {
+        /// Whether the transaction had an intent there.
+        found: bool,
+    },
+    ResolvedRange {
+        /// How many intents are resolved.
+        count: u64,
+        /// What is left of the span, from the next key on.
+        resume: Option<&'a Span>,
+    },
     Statistics(&'a Stats),
     /// One part of the store.
     LayoutLine {

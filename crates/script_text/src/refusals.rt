@@ -43,6 +43,7 @@ fn append_refusal(why: Refusal<'_>, into: &mut Vec<u8>) -> Result<(), OutOfMemor
         Refusal::KeyTooLong(length) => append_numbered(b"KeyTooLong length=", length, into),
         Refusal::ValueTooLong(length) => append_numbered(b"ValueTooLong length=", length, into),
         Refusal::BadTimestamp => append(b"BadTimestamp", into),
+        Refusal::BadSpan => append(b"BadSpan", into),
         Refusal::Conflict(intents) => append_conflict(intents, into),
         Refusal::EpochFault(own, other) => append_epoch_fault(own, other, into),
         Refusal::ReplayMissing(sequence) => {
@@ -60,6 +61,7 @@ fn append_refusal(why: Refusal<'_>, into: &mut Vec<u8>) -> Result<(), OutOfMemor
         Refusal::NotInteger(found) => append_valued(b"NotInteger actual=", found, into),
         Refusal::IntegerOverflow(old, by) => append_integer_overflow(old, by, into),
         Refusal::IntentTooLong(length) => append_numbered(b"IntentTooLong length=", length, into),
+        Refusal::CommitBelowIntent(ts) => append_timed(b"CommitBelowIntent ts=", ts, into),
         Refusal::MomentTooEarly(latest) => append_numbered(b"MomentTooEarly latest=", latest, into),
         Refusal::CountOverflow(field) => append_named(b"CountOverflow field=", field, into),
     }

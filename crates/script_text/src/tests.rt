@@ -1,6 +1,6 @@
 use super::*;
 use intent_meta::IntentSeen;
-use mvcc_key::{Key, OutOfMemory, SeqRange, Timestamp};
+use mvcc_key::{Key, OutOfMemory, SeqRange, Span, Timestamp};
 use mvcc_value::OwnedValue;
 use std::alloc::Global;
 use std::test::Fail;
@@ -50,6 +50,42 @@ fn texts<'a>(
         show(alloc, answer, &mut text)?;
     }
     Ok(text)
+}
+
+/// The texts of resolutions, one behind another.
+fn resolutions(alloc: Global, left: &Span, ts: Timestamp) -> Result<Vec<u8>, OutOfMemory> {
+    let answers = [
+        Answer::Resolved { found: true },
+        Answer::Resolved { found: false },
+        Answer::ResolvedRange {
+            count: 0,
+            resume: None,
+        },
+        Answer::ResolvedRange {
+            count: 12,
+            resume: Some(left),
+        },
+        Answer::Refused(Reason::ByEngine(Refusal::BadSpan)),
+        Answer::Refused(Reason::ByEngine(Refusal::CommitBelowIntent(ts))),
+    ];
+    let mut text = Vec::new(alloc);
+    for answer in &answers {
+        show(alloc, answer, &mut text)?;
+    }
+    Ok(text)
+}
+
+#[test]
+fn resolutions_are_appended(rt: HostRuntime) -> Result<(), Fail> {
+    let ts = Timestamp::new(2_500_000_000, 3).unwrap_or(Timestamp::NONE);
+    let start = Key::copy(rt.alloc(), b"c")?;
+    let end = Key::copy(rt.alloc(), b"z\"\0")?;
+    let text = resolutions(rt.alloc(), &Span { start, end }, ts)?;
+    assert_eq!(rt;
+        text.as_slice(),
+        b"resolve: found=true\nresolve: found=false\nresolve_range: resolved=0\nresolve_range: resolved=12\nresume: \"c\"-\"z\\x22\\x00\"\nerror: BadSpan\nerror: CommitBelowIntent ts=2.500000000,3\n".as_slice()
+    );
+    Ok(())
 }
 
 #[test]

@@ -5,8 +5,8 @@ ghost use Rattle.std.specs.List.{flat_map};
 ghost use Rattle.mvcc_key.specs.views.Seen.{range_of};
 ghost use Rattle.mvcc_value.specs.views.Seen.{found_of};
 ghost use Rattle.txn_state.specs.views.Seen.{ranges_of};
-ghost use Rattle.script_text.specs.Text.{get_line, increment_line, layout_line, next_range, part_name, range, ranges, show, txn_line, txn_name, txn_numbers, txn_times, yes_or_no};
-ghost use Rattle.script_text.specs.views.Seen.{answer_of};
+ghost use Rattle.script_text.specs.Text.{get_line, increment_line, layout_line, next_range, part_name, range, ranges, resolved_lines, resume_line, show, txn_line, txn_name, txn_numbers, txn_times, yes_or_no};
+ghost use Rattle.script_text.specs.views.Seen.{answer_of, span_of};
 ghost use Rattle.script_text.specs.views.Appending.{Extends};
 
 use crate::answer::Answer;
@@ -14,7 +14,7 @@ use crate::pieces::{append, append_integer, append_number, append_numbered};
 use crate::refusals::append_reason;
 use crate::statistics::append_statistics;
 use crate::values::{append_id, append_quoted, append_time, append_timed, append_value};
-use mvcc_key::{OutOfMemory, SeqRange};
+use mvcc_key::{OutOfMemory, SeqRange, Span};
 use mvcc_value::Found;
 use std::alloc::Global;
 use txn_state::Txn;
@@ -46,6 +46,9 @@ fn append_answer(answer: &Answer<'_>, into: &mut Vec<u8>) -> Result<(), OutOfMem
         Answer::Deleted { found: true } => append(b"del: found=true\n", into),
         Answer::Deleted { found: false } => append(b"del: found=false\n", into),
         Answer::Incremented(number) => append_increment_line(number, into),
+        Answer::Resolved { found: true } => append(b"resolve: found=true\n", into),
+        Answer::Resolved { found: false } => append(b"resolve: found=false\n", into),
+        Answer::ResolvedRange { count, resume } => append_resolved_lines(count, resume, into),
         Answer::Statistics(stats) => append_statistics(stats, into),
         Answer::LayoutLine {
             index,
@@ -69,6 +72,39 @@ fn append_increment_line(number: i64, into: &mut Vec<u8>) -> Result<(), OutOfMem
     ensures err { OnErr result (Extends into.old.items into.new.items) }
 {
     append_integer(b"increment: ", number, into)?;
+    append(b"\n", into)?;
+    Ok(())
+}
+
+/// How many intents of a span are resolved, and what is left of it.
+#[tactic(auto, unfolding(crate::specs::Text::resolved_lines))]
+fn append_resolved_lines(
+    count: u64,
+    resume: Option<&Span>,
+    into: &mut Vec<u8>,
+) -> Result<(), OutOfMemory>
+    ensures ok { OnOk result (into.new.items ≡ into.old.items ++ resolved_lines count (option_map (λ s. span_of s.now) resume.entry)) }
+    ensures err { OnErr result (Extends into.old.items into.new.items) }
+{
+    append_numbered(b"resolve_range: resolved=", count, into)?;
+    append(b"\n", into)?;
+    append_resume_line(resume, into)?;
+    Ok(())
+}
+
+/// What is left of a span, where something is.
+#[tactic(auto, unfolding(crate::specs::Text::resume_line))]
+fn append_resume_line(resume: Option<&Span>, into: &mut Vec<u8>) -> Result<(), OutOfMemory>
+    ensures ok { OnOk result (into.new.items ≡ into.old.items ++ resume_line (option_map (λ s. span_of s.now) resume.entry)) }
+    ensures err { OnErr result (Extends into.old.items into.new.items) }
+{
+    let Some(span) = resume else {
+        return Ok(());
+    };
+    append(b"resume: ", into)?;
+    append_quoted(span.start.bytes(), into)?;
+    append(b"-", into)?;
+    append_quoted(span.end.bytes(), into)?;
     append(b"\n", into)?;
     Ok(())
 }

@@ -54,9 +54,13 @@ only names flags ws = where_it (are_only names flags ws) ws
 unfoldable pub value_of : List ℕ → List Word → Option (List ℕ)
 value_of n ws = find (is_named n) ws >>= λ w. w.value
 
+-- the value in its form; there is no reading where it does not stand
+abbrev pub read_required : {A : Type 0} → (List ℕ → Option A) → Option (List ℕ) → Option A
+read_required form value = value >>= form
+
 -- a value that must be there, in a form
 abbrev pub required : {A : Type 0} → List ℕ → (List ℕ → Option A) → List Word → Option A
-required n form ws = value_of n ws >>= form
+required n form ws = read_required form (value_of n ws)
 
 -- the value in its form, or else the default
 abbrev pub read_or : {A : Type 0} → (List ℕ → Option A) → A → Option (List ℕ) → Option A

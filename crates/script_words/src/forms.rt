@@ -218,6 +218,13 @@ pub fn count(digits: &[u8]) -> Result<u32, LineFault>
     Ok(number as u32)
 }
 
+/// At most how many a NUM says: 1 to 19 digits, below 2^63.
+pub fn limit(digits: &[u8]) -> Result<u64, LineFault>
+    ensures { Gives (λ n. n) result (number_to max_number digits.now) }
+{
+    number_in(digits, MAX_DIGITS, 0, MAX_NUMBER).ok_or(LineFault::BadLine)
+}
+
 /// The number that an INT writes, where it is one: 1 to 19 digits, and a minus sign in front of them where it is negative.
 #[tactic(auto, unfolding(crate::specs::Forms::integer))]
 pub fn integer(bytes: &[u8]) -> Result<i64, LineFault>

@@ -1,5 +1,5 @@
 -- How contracts see what a resolution leaves of an intent, without its bytes.
-use Rattle.std.specs.Prelude.{length}
+use Rattle.std.specs.Prelude.{Bool, true, false, length}
 use Rattle.mvcc_value.specs.Encoding.{is_deletion_value}
 use Rattle.mvcc_cursor.specs.views.Lent.{LentVersion}
 use Rattle.stat_core.specs.DeadSince.{VersionShape}
@@ -23,3 +23,9 @@ abbrev pub front_by : rule.Resolution → Front
 front_by rule.Gone = Nothing
 front_by (rule.Stays i) = Intent (intent_shape i)
 front_by (rule.Becomes v) = Version (version_shape v)
+
+-- something is left
+abbrev pub is_front : Front → Bool
+is_front Nothing = false
+is_front (Intent shape) = true
+is_front (Version shape) = true

@@ -1,5 +1,5 @@
 -- How contracts see the values of the code.
-use Rattle.std.specs.Prelude.{Option, Some, None, map}
+use Rattle.std.specs.Prelude.{Option, Some, None, map, option_map}
 use Rattle.mvcc_key.specs.Refusal as refusals
 use Rattle.mvcc_key.specs.Spans as spans
 use Rattle.mvcc_key.specs.views.Seen.{time_of, range_of}
@@ -8,6 +8,7 @@ use Rattle.intent_resolve.specs.Resolve as rule
 use Rattle.intent_resolve.specs.declared.update.TxnStatus.{TxnStatus}
 use Rattle.intent_resolve.specs.declared.update.TxnStatus.TheVariants as status
 use Rattle.intent_resolve.specs.declared.update.Update.{Update}
+use Rattle.intent_resolve.specs.declared.ranged.Ranged.{Ranged}
 use Rattle.intent_resolve.specs.declared.fault.ResolveFault.{ResolveFault}
 use Rattle.intent_resolve.specs.declared.fault.ResolveFault.TheVariants as fault
 
@@ -24,6 +25,10 @@ update_of u = record { id = u.id; epoch = u.epoch; status = status_of u.status; 
 -- a span
 abbrev pub span_of : Span → spans.Span
 span_of s = record { start = s.start; end = s.end }
+
+-- how many intents of a span were handled, and what is left of the span
+abbrev pub ranged_of : Ranged → spans.Ranged
+ranged_of r = record { count = r.count; resume = option_map span_of r.resume }
 
 -- why a resolution is refused; want of memory is none of the reasons
 abbrev pub refusal_of : ResolveFault → Option refusals.Refusal

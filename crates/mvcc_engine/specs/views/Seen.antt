@@ -17,6 +17,8 @@ use Rattle.write_rule.specs.Write.{WriteKind, Put, Delete, ConditionalPut, InitP
 use Rattle.write_rule.specs.views.Seen.{Tells, stored_body}
 use Rattle.write_rule.specs.declared.fault.WriteFault.{WriteFault}
 use Rattle.write_rule.specs.declared.fault.WriteFault.TheVariants as put_fault
+use Rattle.intent_resolve.specs.declared.fault.ResolveFault.{ResolveFault}
+use Rattle.intent_resolve.specs.declared.fault.ResolveFault.TheVariants as resolve_fault
 use Rattle.mvcc_engine.specs.Step.{State, Reply, Finished, Stepped, read_at}
 use Rattle.mvcc_engine.specs.declared.refusal.Refusal.{Refusal}
 use Rattle.mvcc_engine.specs.declared.refusal.Refusal.TheVariants as refusal
@@ -30,6 +32,7 @@ refusal_of refusal.EmptyKey = Some refusals.EmptyKey
 refusal_of (refusal.KeyTooLong length) = Some (refusals.KeyTooLong length)
 refusal_of (refusal.ValueTooLong length) = Some (refusals.ValueTooLong length)
 refusal_of refusal.BadTimestamp = Some refusals.BadTimestamp
+refusal_of refusal.BadSpan = Some refusals.BadSpan
 refusal_of (refusal.Conflict intents) = Some (refusals.Conflict intents)
 refusal_of (refusal.EpochFault own other) = Some (refusals.EpochFault own other)
 refusal_of (refusal.ReplayMissing sequence) = Some (refusals.ReplayMissing sequence)
@@ -39,6 +42,7 @@ refusal_of (refusal.ConditionFailed actual) = Some (refusals.ConditionFailed (op
 refusal_of (refusal.NotInteger actual) = Some (refusals.NotInteger (owned_body actual))
 refusal_of (refusal.IntegerOverflow old by) = Some (refusals.IntegerOverflow old by)
 refusal_of (refusal.IntentTooLong length) = Some (refusals.IntentTooLong length)
+refusal_of (refusal.CommitBelowIntent ts) = Some (refusals.CommitBelowIntent (time_of ts))
 refusal_of (refusal.MomentTooEarly latest) = Some (refusals.MomentTooEarly latest)
 refusal_of (refusal.CountOverflow field) = Some (refusals.CountOverflow (field_of field))
 
@@ -63,6 +67,12 @@ as_put_refusal (put_fault.ConditionFailed actual) = refusal.ConditionFailed actu
 as_put_refusal (put_fault.NotInteger actual) = refusal.NotInteger actual
 as_put_refusal (put_fault.IntegerOverflow old by) = refusal.IntegerOverflow old by
 as_put_refusal (put_fault.IntentTooLong length) = refusal.IntentTooLong length
+
+-- the refusal that a fault of a planned resolution is
+abbrev pub as_resolve_refusal : ResolveFault → Refusal
+as_resolve_refusal resolve_fault.OutOfMemory = refusal.OutOfMemory
+as_resolve_refusal resolve_fault.BadSpan = refusal.BadSpan
+as_resolve_refusal (resolve_fault.CommitBelowIntent ts) = refusal.CommitBelowIntent ts
 
 -- a call is answered as its step says; a refused one leaves the state, and so does one that finds no memory
 abbrev pub Answers : {A : Type 0} → Result A Refusal → (A → Reply) → State → State → Result Stepped refusals.Refusal → Type 0

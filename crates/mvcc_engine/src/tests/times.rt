@@ -1,4 +1,4 @@
-//! Puts into large stores.
+//! Puts into large stores, and a resolution over a span of one.
 ghost use Rattle.std.specs.Prelude.{◌≡◌, ◌<◌};
 
 use super::*;
@@ -22,13 +22,14 @@ fn numbered(number: u32) -> [u8; 7] {
     ]
 }
 
-/// Puts `abc` at one second under rising keys.
+/// Puts `abc` at a wall time under rising keys.
 fn put_rising<L: Ledger>(
     engine: &mut Engine,
     count: u32,
+    wall: u64,
     looks: &mut Looks<L>,
 ) -> Result<(), Refusal> {
-    let who = Actor::At(at(SECOND));
+    let who = Actor::At(at(wall));
     for number in 0..count {
         engine.put(who, &numbered(number), ABC, Timestamp::NONE, looks)?;
     }
@@ -42,7 +43,7 @@ fn filled<L: Ledger>(alloc: Global, count: u32, blank: Blank) -> Result<Engine, 
 {
     let mut looks = Looks::<L>::new(blank);
     let mut engine = bounded(alloc, LARGEST);
-    put_rising(&mut engine, count, &mut looks)?;
+    put_rising(&mut engine, count, SECOND, &mut looks)?;
     Ok(engine)
 }
 
@@ -52,6 +53,69 @@ fn rising_keys_are_put(rt: HostRuntime) -> Result<(), Fail> {
     let engine = filled::<Brand>(rt.alloc(), 150_000, Blank::new(1))?;
     let keys = [150_000, 3_000_000, 150_000, 1_200_000, 150_000, 4_200_000];
     assert_eq!(rt; numbers(&engine.stats()), of_keys(keys, [0; 3], 0, SECOND));
+    Ok(())
+}
+
+/// Calls with what they are to answer, and the statistics after them.
+type Row<'a> = (&'a [(Call<'a>, Answer)], [u64; 15]);
+
+/// The first row that is answered otherwise, over two versions of each of 100,000 keys, the older ones in a run.
+fn first_wrong_row<L: Ledger>(
+    alloc: Global,
+    rows: &[Row<'_>],
+    blank: Blank,
+) -> Result<Option<usize>, Fail>
+    requires name { blank.name ≡ L.name }
+    requires parts { blank.parts ≡ L.parts }
+    requires some { 0 < blank.parts }
+{
+    let mut looks = Looks::<L>::new(blank);
+    let mut engine = bounded(alloc, LARGEST);
+    put_rising(&mut engine, 100_000, SECOND, &mut looks)?;
+    engine.flush()?;
+    put_rising(&mut engine, 100_000, 2 * SECOND, &mut looks)?;
+    for (i, (calls, want)) in rows.iter().enumerate() {
+        let wrong = first_wrong(alloc, &mut engine, calls, &mut looks)?;
+        if wrong.is_some() || numbers(&engine.stats()) != *want {
+            return Ok(Some(i));
+        }
+    }
+    Ok(None)
+}
+
+/// Three intents among 100,000 keys of two versions are resolved within a test's time, and one of another transaction stays. Where
+/// the last of the three refuses, nothing is changed.
+#[test]
+fn a_span_of_a_large_store_is_resolved(rt: HostRuntime) -> Result<(), Fail> {
+    let put = |id, seconds, key| {
+        let who = Writer::In(id, SECOND.saturating_mul(seconds), 0);
+        (Call::Write(who, key, Write::Put(DE)), Answer::Done)
+    };
+    let commit = |seconds, answer| {
+        let known = Known {
+            id: 1,
+            epoch: 0,
+            status: TxnStatus::Committed,
+            wall: SECOND.saturating_mul(seconds),
+            ignored: None,
+        };
+        (Call::ResolveRange(b"k", b"z", known, None), answer)
+    };
+    let puts = [
+        put(1, 5, b"k000000"),
+        put(1, 5, b"k050000"),
+        put(2, 5, b"k050001"),
+        put(1, 7, b"k099999"),
+    ];
+    let below = [commit(6, Answer::Refused(Why::Below(7 * SECOND)))];
+    let taken = [commit(9, Answer::Took(3, None))];
+    let keys = [100_000, 3_200_048, 200_004, 1_600_208, 100_000, 2_800_176];
+    let stays = of_keys(keys, [4, 76, 6], 10_000_120, 7 * SECOND);
+    let keys = [100_000, 3_200_048, 200_004, 1_600_124, 100_000, 2_800_092];
+    let after = of_keys(keys, [1, 19, 4], 14_000_080, 9 * SECOND);
+    let rows: [Row<'_>; 3] = [(&puts, stays), (&below, stays), (&taken, after)];
+    let wrong = first_wrong_row::<Brand>(rt.alloc(), &rows, Blank::new(1))?;
+    assert_eq!(rt; wrong, None);
     Ok(())
 }
 

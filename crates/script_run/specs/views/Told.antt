@@ -1,5 +1,5 @@
 -- Why a command is not carried out.
-use Rattle.std.specs.Prelude.{◌≡◌, Option, Some, None, Result, Ok, Err, ⊤}
+use Rattle.std.specs.Prelude.{◌≡◌, Option, Some, None, Result, Err, ⊤}
 use Rattle.std.specs.Option.{option_map}
 use Rattle.mvcc_engine.specs.views.Seen.{refusal_of}
 use Rattle.txn_state.specs.Transaction as transaction

@@ -14,3 +14,9 @@ returns-in-Deleted-true-clause-err c = on_err_weaker c.append-in-Deleted-true.re
 
 pub returns-in-Deleted-false-clause-err : goal.returns-in-Deleted-false-clause-err
 returns-in-Deleted-false-clause-err c = on_err_weaker c.append-in-Deleted-false.result (Extends-same _ _) c.append-in-Deleted-false.ensures.err
+
+pub returns-in-Resolved-true-clause-err : goal.returns-in-Resolved-true-clause-err
+returns-in-Resolved-true-clause-err c = on_err_weaker c.append-in-Resolved-true.result (Extends-same _ _) c.append-in-Resolved-true.ensures.err
+
+pub returns-in-Resolved-false-clause-err : goal.returns-in-Resolved-false-clause-err
+returns-in-Resolved-false-clause-err c = on_err_weaker c.append-in-Resolved-false.result (Extends-same _ _) c.append-in-Resolved-false.ensures.err

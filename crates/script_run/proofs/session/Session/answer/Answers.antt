@@ -35,7 +35,7 @@ returns-then-is_blank-clause-state c = ap (λ k. k.state) (sym (blank c))
 pub returns-then-is_blank-clause-answer : goal.returns-then-is_blank-clause-answer
 returns-then-is_blank-clause-answer c = unanswered c.args.options.stats (carry_out c.args.self.now c.args.number c.args.line.now) c.args.self.now c.args.text.now.items (blank c)
 
-said : (c : goal.Joined-said-35) → carry_out c.args.self.now c.args.number c.args.line.now ≡ performed c.args.self.now (line_of c.in-Ok.said)
+said : (c : goal.Joined-said-41) → carry_out c.args.self.now c.args.number c.args.line.now ≡ performed c.args.self.now (line_of c.in-Ok.said)
 said c = carry_out-performed c.args.self.now c.args.number c.args.line.now c.without_return.result.now (line_of c.in-Ok.said) c.without_return.ensures c.in-Ok.ensures
 
 pub returns-clause-state : goal.returns-clause-state

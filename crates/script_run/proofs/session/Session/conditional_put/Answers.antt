@@ -2,6 +2,7 @@
 use Rattle.std.proofs.Common.{refl}
 use Rattle.std.specs.Option.{option_map}
 use Rattle.std.proofs.lemmas.Result.{err_from_is_err_and}
+use Rattle.mvcc_key.specs.views.Seen.{time_of}
 use Rattle.mvcc_value.specs.views.Seen.{plain_body}
 use Rattle.txn_state.specs.views.Seen.{actor_of}
 use Rattle.write_rule.specs.Write as rule
@@ -21,7 +22,7 @@ returns-in_err-writer g c =
     let v : ScriptState = record { engine = c.self.inside.engine; txns = c.self.inside.txns; begun = c.self.inside.begun } in
     let p = err_from_is_err_and c.from_residual.result c.from_residual.ensures.1 in
     rw (p.1, p.2)
-    (no_writer c.args.text.now.items c.args.text.now.items v c.args.self.now c.self.view_is (ConditionalPut c.args.key.now (plain_body c.args.value) (who_of c.args.who) (option_map plain_body c.args.expected)) c.args.key.now (who_of c.args.who) (rule.ConditionalPut (plain_body c.args.value) (option_map plain_body c.args.expected)) refl
+    (no_writer c.args.text.now.items c.args.text.now.items v c.args.self.now c.self.view_is (ConditionalPut c.args.key.now (plain_body c.args.value) (who_of c.args.who) (option_map plain_body c.args.expected) (time_of c.args.local)) c.args.key.now (who_of c.args.who) (rule.ConditionalPut (plain_body c.args.value) (option_map plain_body c.args.expected)) (time_of c.args.local) refl
     (told_by c.in_err-writer.field-0.0) c.in_err-writer.ensures refl)
 
 pub returns-in_err-conditional_put : goal.returns-in_err-conditional_put
@@ -31,8 +32,8 @@ returns-in_err-conditional_put g c =
     let writer = actor_of c.in_ok-writer.writer in
     let p = err_from_is_err_and c.from_residual-in_err-conditional_put.result c.from_residual-in_err-conditional_put.ensures.1 in
     rw (p.1, p.2)
-    (refused text text v c.args.self.now c.self.view_is (ConditionalPut c.args.key.now (plain_body c.args.value) (who_of c.args.who) (option_map plain_body c.args.expected)) wrote (step v.engine (write_command c.args.key.now writer (rule.ConditionalPut (plain_body c.args.value) (option_map plain_body c.args.expected))))
-    (by_writer text text v c.args.self.now c.self.view_is (ConditionalPut c.args.key.now (plain_body c.args.value) (who_of c.args.who) (option_map plain_body c.args.expected)) c.args.key.now (who_of c.args.who) (rule.ConditionalPut (plain_body c.args.value) (option_map plain_body c.args.expected)) refl writer c.in_ok-writer.ensures)
+    (refused text text v c.args.self.now c.self.view_is (ConditionalPut c.args.key.now (plain_body c.args.value) (who_of c.args.who) (option_map plain_body c.args.expected) (time_of c.args.local)) wrote (step v.engine (write_command c.args.key.now writer (rule.ConditionalPut (plain_body c.args.value) (option_map plain_body c.args.expected)) (time_of c.args.local)))
+    (by_writer text text v c.args.self.now c.self.view_is (ConditionalPut c.args.key.now (plain_body c.args.value) (who_of c.args.who) (option_map plain_body c.args.expected) (time_of c.args.local)) c.args.key.now (who_of c.args.who) (rule.ConditionalPut (plain_body c.args.value) (option_map plain_body c.args.expected)) (time_of c.args.local) refl writer c.in_ok-writer.ensures)
     c.conditional_put.new.self (refusal_of c.in_err-conditional_put.field-0.0) c.in_err-conditional_put.ensures.answers.1 c.in_err-conditional_put.ensures.answers.0 refl)
 
 pub returns : goal.returns
@@ -41,8 +42,8 @@ returns g c =
     let old = c.args.text.now.items in
     let new = c.show.new.into.items in
     let writer = actor_of c.in_ok-writer.writer in
-    taken old new v c.args.self.now c.self.view_is (ConditionalPut c.args.key.now (plain_body c.args.value) (who_of c.args.who) (option_map plain_body c.args.expected)) wrote (step v.engine (write_command c.args.key.now writer (rule.ConditionalPut (plain_body c.args.value) (option_map plain_body c.args.expected))))
-    (by_writer old new v c.args.self.now c.self.view_is (ConditionalPut c.args.key.now (plain_body c.args.value) (who_of c.args.who) (option_map plain_body c.args.expected)) c.args.key.now (who_of c.args.who) (rule.ConditionalPut (plain_body c.args.value) (option_map plain_body c.args.expected)) refl writer c.in_ok-writer.ensures)
+    taken old new v c.args.self.now c.self.view_is (ConditionalPut c.args.key.now (plain_body c.args.value) (who_of c.args.who) (option_map plain_body c.args.expected) (time_of c.args.local)) wrote (step v.engine (write_command c.args.key.now writer (rule.ConditionalPut (plain_body c.args.value) (option_map plain_body c.args.expected)) (time_of c.args.local)))
+    (by_writer old new v c.args.self.now c.self.view_is (ConditionalPut c.args.key.now (plain_body c.args.value) (who_of c.args.who) (option_map plain_body c.args.expected) (time_of c.args.local)) c.args.key.now (who_of c.args.who) (rule.ConditionalPut (plain_body c.args.value) (option_map plain_body c.args.expected)) (time_of c.args.local) refl writer c.in_ok-writer.ensures)
     c.conditional_put.new.self (Wrote (rule.Done)) (Accepted) c.in_ok-conditional_put.ensures.answers refl c.in_ok-show.ensures.ok
 
 pub invariant_of-self-in_err-show : goal.invariant_of-self-in_err-show

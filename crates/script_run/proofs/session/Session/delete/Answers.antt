@@ -1,6 +1,7 @@
 -- A deletion is a write by its writer.
 use Rattle.std.proofs.Common.{refl}
 use Rattle.std.proofs.lemmas.Result.{err_from_is_err_and}
+use Rattle.mvcc_key.specs.views.Seen.{time_of}
 use Rattle.txn_state.specs.views.Seen.{actor_of}
 use Rattle.write_rule.specs.Write as rule
 use Rattle.mvcc_engine.specs.Step.{Wrote, step}
@@ -19,7 +20,7 @@ returns-in_err-writer g c =
     let v : ScriptState = record { engine = c.self.inside.engine; txns = c.self.inside.txns; begun = c.self.inside.begun } in
     let p = err_from_is_err_and c.from_residual.result c.from_residual.ensures.1 in
     rw (p.1, p.2)
-    (no_writer c.args.text.now.items c.args.text.now.items v c.args.self.now c.self.view_is (Del c.args.key.now (who_of c.args.who)) c.args.key.now (who_of c.args.who) (rule.Delete) refl
+    (no_writer c.args.text.now.items c.args.text.now.items v c.args.self.now c.self.view_is (Del c.args.key.now (who_of c.args.who) (time_of c.args.local)) c.args.key.now (who_of c.args.who) (rule.Delete) (time_of c.args.local) refl
     (told_by c.in_err-writer.field-0.0) c.in_err-writer.ensures refl)
 
 pub returns-in_err-found : goal.returns-in_err-found
@@ -29,8 +30,8 @@ returns-in_err-found g c =
     let writer = actor_of c.in_ok-writer.writer in
     let p = err_from_is_err_and c.from_residual-in_err-found.result c.from_residual-in_err-found.ensures.1 in
     rw (p.1, p.2)
-    (refused text text v c.args.self.now c.self.view_is (Del c.args.key.now (who_of c.args.who)) wrote (step v.engine (write_command c.args.key.now writer (rule.Delete)))
-    (by_writer text text v c.args.self.now c.self.view_is (Del c.args.key.now (who_of c.args.who)) c.args.key.now (who_of c.args.who) (rule.Delete) refl writer c.in_ok-writer.ensures)
+    (refused text text v c.args.self.now c.self.view_is (Del c.args.key.now (who_of c.args.who) (time_of c.args.local)) wrote (step v.engine (write_command c.args.key.now writer (rule.Delete) (time_of c.args.local)))
+    (by_writer text text v c.args.self.now c.self.view_is (Del c.args.key.now (who_of c.args.who) (time_of c.args.local)) c.args.key.now (who_of c.args.who) (rule.Delete) (time_of c.args.local) refl writer c.in_ok-writer.ensures)
     c.delete.new.self (refusal_of c.in_err-found.field-0.0) c.in_err-found.ensures.answers.1 c.in_err-found.ensures.answers.0 refl)
 
 pub returns : goal.returns
@@ -39,8 +40,8 @@ returns g c =
     let old = c.args.text.now.items in
     let new = c.show.new.into.items in
     let writer = actor_of c.in_ok-writer.writer in
-    taken old new v c.args.self.now c.self.view_is (Del c.args.key.now (who_of c.args.who)) wrote (step v.engine (write_command c.args.key.now writer (rule.Delete)))
-    (by_writer old new v c.args.self.now c.self.view_is (Del c.args.key.now (who_of c.args.who)) c.args.key.now (who_of c.args.who) (rule.Delete) refl writer c.in_ok-writer.ensures)
+    taken old new v c.args.self.now c.self.view_is (Del c.args.key.now (who_of c.args.who) (time_of c.args.local)) wrote (step v.engine (write_command c.args.key.now writer (rule.Delete) (time_of c.args.local)))
+    (by_writer old new v c.args.self.now c.self.view_is (Del c.args.key.now (who_of c.args.who) (time_of c.args.local)) c.args.key.now (who_of c.args.who) (rule.Delete) (time_of c.args.local) refl writer c.in_ok-writer.ensures)
     c.delete.new.self (Wrote (rule.WasThere c.in_ok-found.found)) (Deleted c.in_ok-found.found) c.in_ok-found.ensures.answers refl c.in_ok-show.ensures.ok
 
 pub invariant_of-self-in_err-show : goal.invariant_of-self-in_err-show
